@@ -1,0 +1,15 @@
+pub mod Words
+pub mod Job
+pub mod Sections
+pub mod Chains
+pub mod Dynamic
+pub mod Decode
+pub mod Refusals
+pub mod Line
+pub mod Lanes
+pub mod Traffic
+pub mod Rows
+pub mod Arrangements
+pub mod Numbers
+pub mod Answered
+pub mod Figures
