@@ -5,6 +5,7 @@ use lib.Count.{ones, onesIn}
 use Rattle.exact.specs.Choice.{minℤ, maxℤ}
 use Rattle.exact.specs.Rounding.{floorDiv, ceilDiv}
 use Rattle.model.specs.Words.{signed32, wordAt}
+use Rattle.model.specs.Sections.{sectionOf}
 use Rattle.model.specs.Chains.{chainFrom, walk, repeats, returns, namesTwice}
 use Rattle.model.specs.Dynamic.{dynamicFactor}
 use Rattle.model.specs.Decode.{decode}
@@ -16,5 +17,5 @@ use Rattle.model.specs.Figures.{figures, Figure}
 
 -- every figure is as printed
 pub figures-hold : map (λ (f : Figure). f .given) figures ≡ map (λ (f : Figure). f .printed) figures
-unfolding signed32 wordAt chainFrom walk repeats returns namesTwice dynamicFactor decode headerTests fault1 fault2 fault3 fault4 fault5 fault6 fault7 fault8 fault9 verdict along ordinate pair patchByte uniformPart bestPair lineEffect laneCount reduction transverseAt bestOrdinate bestInLane laneEffect setSum bestNormal bestOverload bestSum effectOf trafficValue minℤ maxℤ floorDiv ceilDiv ones onesIn
+unfolding signed32 wordAt sectionOf chainFrom walk repeats returns namesTwice dynamicFactor decode headerTests fault1 fault2 fault3 fault4 fault5 fault6 fault7 fault8 fault9 verdict along ordinate pair patchByte uniformPart bestPair lineEffect laneCount reduction transverseAt bestOrdinate bestInLane laneEffect setSum bestNormal bestOverload bestSum effectOf trafficValue minℤ maxℤ floorDiv ceilDiv ones onesIn
 figures-hold = refl

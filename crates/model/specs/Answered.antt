@@ -11,12 +11,12 @@ use lib.Dec.{eqb}
 use Rattle.exact.specs.Questions.{NoBetter}
 use Rattle.exact.specs.declared.Question.{Question}
 use Rattle.exact.specs.declared.Question.the-variants.{Greatest, Least}
-use Rattle.model.specs.Job.{Job, Limit, service, ultimate, Live, noTraffic, normal, overload}
+use Rattle.model.specs.Job.{InfluenceLine, Job, Limit, service, ultimate, Live, noTraffic, normal, overload}
 use Rattle.model.specs.Decode.{decode}
 use Rattle.model.specs.Refusals.{Refusal, verdict}
 use Rattle.model.specs.Line.{Kind, HN, HO, axleSpacing, pair, bestPair, patchBytes, loadedByte}
-use Rattle.model.specs.Lanes.{lanes, bit}
-use Rattle.model.specs.Traffic.{trafficValue}
+use Rattle.model.specs.Lanes.{bit}
+use Rattle.model.specs.Traffic.{lanes, trafficValue}
 use Rattle.model.specs.Rows.{rowValue, MayOmit, stateValue}
 use Rattle.model.specs.Arrangements.{Element, Load, unloaded, element, Arrangement, arranged, Lawful}
 use Rattle.model.specs.declared.Side.the-variants.{Left}
@@ -124,10 +124,10 @@ pub record TrafficRight (job : Job) (patch : List ℕ) (a : Account) (q : Questi
   pub idle : (i : ℕ) → laneAt (x .placement) i .entry ≡ Unloaded → laneAt (x .placement) i .centre ≡ 0
 
 -- a sense's station and side: no pair of ordinates is better, and no axle spacing lies between it and the line
-pub record PositionRight (job : Job) (sense : Sense) (p : Position) : Type 0 where
-  pub best : pair job 1 (p .station) (p .side) ≡ bestPair job sense
-  pub first : negℤ (pos (axleSpacing job)) ≤ℤ p .station
-  pub last : p .station ≤ℤ pos (job .pieces)
+pub record PositionRight (line : InfluenceLine) (sense : Sense) (p : Position) : Type 0 where
+  pub best : pair line 1 (p .station) (p .side) ≡ bestPair line sense
+  pub first : negℤ (pos (axleSpacing line)) ≤ℤ p .station
+  pub last : p .station ≤ℤ pos (line .pieces)
 
 -- ---- a limit state
 
@@ -159,13 +159,13 @@ pub record GoverningRight (job : Job) (patch : List ℕ) (a : Account) (q : Ques
   -- value and row equal 01's definition, the lowest row at a tie
   pub value : stateValue q job limit ≡ some (record { value = x .value; row = x .row })
   -- no row of the state beats it: with any omission and the traffic left out, or any arrangement of the row's live kind
-  pub unbeatenUnladen : (r : ℕ) (out : ℕ → Bool) → RowOf job limit r → MayOmit job (job .row r) out → NoBetter q (rowValue job (job .row r) out (pos 0)) (x .value)
-  pub unbeaten : (r : ℕ) (out : ℕ → Bool) (k : ℕ) (w : Arrangement) → RowOf job limit r → MayOmit job (job .row r) out → Lawful job (job .row r .live) k w →
-      NoBetter q (rowValue job (job .row r) out (arranged q job k w)) (x .value)
+  pub unbeatenUnladen : (r : ℕ) (out : ℕ → Bool) → RowOf job limit r → MayOmit (job .effect) (job .row r .chain) out → NoBetter q (rowValue (job .effect) (job .row r) out (pos 0)) (x .value)
+  pub unbeaten : (r : ℕ) (out : ℕ → Bool) (k : ℕ) (w : Arrangement) → RowOf job limit r → MayOmit (job .effect) (job .row r .chain) out → Lawful job (job .row r .live) k w →
+      NoBetter q (rowValue (job .effect) (job .row r) out (arranged q job k w)) (x .value)
   -- the reported row is of the state, its omissions are allowed, and with the reported placement, where the traffic counts, they give the value exactly
   pub rowOf : RowOf job limit (x .row)
-  pub mayOmit : MayOmit job (job .row (x .row)) (omits (x .omitted))
-  pub gives : rowValue job (job .row (x .row)) (omits (x .omitted)) (countedTraffic q job patch a (x .unladen) (job .row (x .row) .live)) ≡ x .value
+  pub mayOmit : MayOmit (job .effect) (job .row (x .row) .chain) (omits (x .omitted))
+  pub gives : rowValue (job .effect) (job .row (x .row)) (omits (x .omitted)) (countedTraffic q job patch a (x .unladen) (job .row (x .row) .live)) ≡ x .value
   -- where the row has no traffic, none is left out
   pub laden : job .row (x .row) .live ≡ noTraffic → x .unladen ≡ false
 
@@ -184,12 +184,12 @@ pub record Accepted (job : Job) (before : List ℕ) (answer : Answer) (after : L
   pub normalLeast : TrafficRight job after (answer .account) Least normal (answer .account .normal .least)
   pub overloadGreatest : TrafficRight job after (answer .account) Greatest overload (answer .account .overload .greatest)
   pub overloadLeast : TrafficRight job after (answer .account) Least overload (answer .account .overload .least)
-  pub raising : PositionRight job Raising (answer .account .raising)
-  pub lowering : PositionRight job Lowering (answer .account .lowering)
+  pub raising : PositionRight (job .line) Raising (answer .account .raising)
+  pub lowering : PositionRight (job .line) Lowering (answer .account .lowering)
   pub service : StateRight job after (answer .account) service (answer .account .service)
   pub ultimate : StateRight job after (answer .account) ultimate (answer .account .ultimate)
   -- a byte a piece; bytes past N keep their old contents
-  pub patch : after ≡ patchBytes job ++ drop (job .pieces) before
+  pub patch : after ≡ patchBytes (job .line) ++ drop (job .line .pieces) before
 
 -- the answer to a job's bytes, with the patch buffer before and after: by the verdict, a refusal or the full account
 pub data Answered (bytes before : List ℕ) (answer : Answer) (after : List ℕ) : Type 0 where

@@ -12,4 +12,5 @@ pub mod Rows
 pub mod Arrangements
 pub mod Numbers
 pub mod Answered
+pub mod Determined
 pub mod Figures
