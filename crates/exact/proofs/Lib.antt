@@ -1,0 +1,12 @@
+pub mod Bridge
+pub mod Tests
+pub mod Order
+pub mod Parts
+pub mod Laws
+pub mod Ring
+pub mod Products
+pub mod Extremes
+pub mod Quotient
+pub mod Rounding
+pub mod Ranges
+pub mod Exact
