@@ -6,6 +6,8 @@ pub mod Laws
 pub mod Ring
 pub mod Products
 pub mod Extremes
+pub mod Bounds
+pub mod Held
 pub mod Quotient
 pub mod Rounding
 pub mod Ranges
