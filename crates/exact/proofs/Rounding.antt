@@ -2,11 +2,14 @@
 use mathlib.Core.Path.{_≡_, refl, sym, _∙_, ap, subst}
 use mathlib.Core.Logic.{_↔_}
 use Prim.Native.Nat.{ℕ, zero, suc, _+_, _*_, _/_, _≤_, _<_}
-use native.Mathlib.Nat.{le-div-iff-mul-le, div-lt-iff-lt-mul, div-mul-le-self, div-le-self, mul-pos}
+use native.Mathlib.Nat.{le-div-iff-mul-le, div-lt-iff-lt-mul, div-mul-le-self, div-le-self, mul-pos, le-trans, lt-of-le-of-lt}
 use native.Mathlib.Omega.{arith}
 use lib.IntN.{ℤ, pos, negsuc, negℤ, _+ℤ_, _*ℤ_, _-ℤ_, negℤ-negℤ}
 use lib.Signed.{_≤ℤ_, _<ℤ_, quotZ, remZ, mag}
+use mir.Syntax.{Width}
+use mir.Val.{SFits}
 use Rattle.exact.specs.Parts.{up, dn}
+use Rattle.exact.specs.Bounds.{Within}
 use Rattle.exact.specs.Rounding.{floorDiv, ceilDiv}
 use Rattle.exact.specs.Questions.{NoBetter, rounded}
 use Rattle.exact.specs.declared.Question.{Question}
@@ -16,6 +19,7 @@ use Rattle.exact.proofs.Order.{le-refl, le-antisym, mul-mono-ℕ, decid
 use Rattle.exact.proofs.Laws.{neg-*}
 use Rattle.exact.proofs.Ring.{_⊕_, _⊗_, _⊝_, neg, lit, _≐_, _≼_, _≺_, _⇒_, solve, linear}
 use Rattle.exact.proofs.Extremes.{no-better-refl, no-better-of-eq, no-better-trans, no-better-antisym, no-better-scale, no-better-cancel}
+use Rattle.exact.proofs.Bounds.{sfits-in, sfits-by}
 use Rattle.exact.proofs.Quotient.{quot-rem, rem-small}
 
 -- n ≤ z / d rounded down, where n d ≤ z
@@ -89,6 +93,28 @@ ceil-unique r z d p h k =
     (linear 3 (λ r z d. z ≼ r ⊗ d ⇒ neg r ⊗ d ≼ neg z) r z (pos d) (omega arith) h)
     (linear 3 (λ r z d. (r ⊝ lit 1) ⊗ d ≺ z ⇒ neg z ≺ (neg r ⊕ lit 1) ⊗ d) r z (pos d) (omega arith) k))
     ∙ negℤ-negℤ r
+
+-- ---- how far from zero: no further than z
+floor-parts : (z : ℤ) (d : ℕ) → (up (floorDiv z d) ≤ up z) × (dn (floorDiv z d) ≤ dn z)
+unfolding floorDiv
+floor-parts (pos a) d = (div-le-self a d, omega arith)
+floor-parts (negsuc a) d = (omega arith, omega (arith, div-le-self a d))
+
+pub rounded-parts : (q : Question) (z : ℤ) (d : ℕ) → (up (rounded q z d) ≤ up z) × (dn (rounded q z d) ≤ dn z)
+unfolding ceilDiv
+rounded-parts Greatest z d =
+    let f = floorDiv (negℤ z) d in
+    let h = floor-parts (negℤ z) d in
+    (omega (arith, up-neg f, dn-neg z), omega (arith, dn-neg f, up-neg z))
+rounded-parts Least z d = floor-parts z d
+
+pub within-rounded : (q : Question) {b : ℕ} {z : ℤ} (d : ℕ) → Within b z → Within b (rounded q z d)
+within-rounded q {b} {z} d r = let h = rounded-parts q z d in record { up≤ = omega (arith, r); dn≤ = omega (arith, r) }
+
+pub rounded-fits : (q : Question) {w : Width} {z : ℤ} (d : ℕ) → SFits w z → SFits w (rounded q z d)
+rounded-fits q {w} {z} d f =
+    let h = rounded-parts q z d in
+    sfits-by w (rounded q z d) (lt-of-le-of-lt (h .0) (sfits-in f .0)) (le-trans (h .1) (sfits-in f .1))
 
 -- ---- from the machine's quotient, toward zero
 module _ (z : ℤ) (d : ℕ) where
