@@ -1,5 +1,5 @@
 use mathlib.Core.Path.{_≡_, sym, _∙_}
-use lib.IntN.{ℤ, pos, _+ℤ_}
+use lib.IntN.{pos, _+ℤ_}
 use lib.Signed.{quotZ}
 use borrow.Author.Needs.{needs}
 use Rattle.exact.specs.Rounding.{ceilDiv}
