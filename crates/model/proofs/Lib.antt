@@ -1,2 +1,4 @@
 pub mod Figures
+pub mod Pigeonhole
+pub mod Chains
 pub mod Determined
