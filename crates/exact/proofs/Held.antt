@@ -40,9 +40,13 @@ any f = arg f (fits-within f)
 pub known : (w : Width) {b : ℕ} {z : ℤ} → Within b z → Room w b → Held w (ofZ w z) b z
 known w r t = arg (within-fits w r t) r
 
+-- what a call returned fits, as `.ok` says
+pub ok-fits : (w : Width) (z : ℤ) → mag z < 2 ^ hbits w → SFits w z
+ok-fits w z h = record { sfits = h }
+
 -- a call's result, by its `.ok` and `.ensures`: read back; held; held, where the `ensures` is the pair of equation and bound
 pub back : (w : Width) {z v : ℤ} → mag z < 2 ^ hbits w → z ≡ v → toZ w (ofZ w z) ≡ v
-back w {z} h e = toZ-ofZ w z (record { sfits = h }) ∙ e
+back w {z} h e = toZ-ofZ w z (ok-fits w z h) ∙ e
 
 pub ret : (w : Width) {b : ℕ} {z v : ℤ} → mag z < 2 ^ hbits w → z ≡ v → Within b v → Held w (ofZ w z) b v
 ret w h e r = record { is = back w h e; near = r }

@@ -1,7 +1,7 @@
 -- The laws of sums, counts and searches over a range.
 use mathlib.Core.Path.{_≡_, refl, sym, _∙_, ap, ap₂, subst}
 use mathlib.Core.Bool.{Bool, true, false, _||_, false≢true, or-true}
-use mathlib.Core.Option.{Option, none, some}
+use mathlib.Core.Option.{none, some, Option·some-injective, Option·none-ne-some, Option·some-ne-none}
 use Prim.Native.Nat.{ℕ, zero, suc, _+_, _≤_, _<_}
 use native.Mathlib.Decide.{decLe}
 use native.Mathlib.Numerals.{add-one}
@@ -114,15 +114,12 @@ any-intro (suc n) test i h e = elim (decLe n i) [
 ]
 
 -- ---- the first that holds
-some-or-none : {A : Type 0} {x : A} → some x ≡ none → ⊥
-some-or-none {A} e = subst (λ (o : Option A). elim o as (λ _. Type 0) [ none ↦ ⊥ | some x ↦ Unit {0} ]) e tt
-
 -- nothing found: every test failed
 pub first-none : (p n : ℕ) (test : ℕ → Bool) → firstFrom p n test ≡ none → (i : ℕ) → p ≤ i → i < p + n → test i ≡ false
 first-none p zero test e i l h = absurd (omega arith)
 first-none p (suc n) test e i l h =
     by-test (test p) (λ b. (if b then some p else firstFrom (suc p) n test) ≡ none → test i ≡ false)
-    (λ _ z. absurd (some-or-none z))
+    (λ _ z. absurd (Option·some-ne-none p z))
     (λ t z. elim (decLe i p) [
       | yes m ↦ let k : i ≡ p = omega arith in rw k t
       | no m ↦ first-none (suc p) n test z i (omega arith) (omega arith)
@@ -142,10 +139,10 @@ pub record First (p n : ℕ) (test : ℕ → Bool) (r : ℕ) : Type 0 where
   pub lower : (i : ℕ) → p ≤ i → i < r → test i ≡ false
 
 pub first-some : (p n : ℕ) (test : ℕ → Bool) (r : ℕ) → firstFrom p n test ≡ some r → First p n test r
-first-some p zero test r e = absurd (some-or-none (sym e))
+first-some p zero test r e = absurd (Option·none-ne-some r e)
 first-some p (suc n) test r e =
     by-test (test p) (λ b. (if b then some p else firstFrom (suc p) n test) ≡ some r → First p (suc n) test r)
-    (λ t z. let k : p ≡ r = some-inj z in subst (First p (suc n) test) k (record { from = omega arith; below = omega arith; holds = t; lower = λ i l m. absurd (omega arith) }))
+    (λ t z. subst (First p (suc n) test) (Option·some-injective p r z) (record { from = omega arith; below = omega arith; holds = t; lower = λ i l m. absurd (omega arith) }))
     (λ t z.
     let f = first-some (suc p) n test r z in
     let l = f .from in
@@ -156,9 +153,6 @@ first-some p (suc n) test r e =
       holds = f .holds;
       lower = λ i l m. elim (decLe i p) [ yes q ↦ let k : i ≡ p = omega arith in rw k t | no q ↦ f .lower i (omega arith) (omega arith) ];
     }) e
-  where
-    some-inj : {a b : ℕ} → some a ≡ some b → a ≡ b
-    some-inj {a} e = ap (λ (o : Option ℕ). elim o as (λ _. ℕ) [ none ↦ a | some x ↦ x ]) e
 
 pub first-some-intro : (p n : ℕ) (test : ℕ → Bool) (r : ℕ) → First p n test r → firstFrom p n test ≡ some r
 first-some-intro p zero test r f = absurd (omega (arith, f .from, f .below))

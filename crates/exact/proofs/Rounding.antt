@@ -25,11 +25,11 @@ use Rattle.exact.proofs.Quotient.{quot-rem, rem-small}
 -- n ≤ z / d rounded down, where n d ≤ z
 pub floor-law : (n z : ℤ) (d : ℕ) → zero < d → (n ≤ℤ floorDiv z d) ↔ ((n *ℤ pos d) ≤ℤ z)
 unfolding floorDiv
-floor-law (pos b) (pos a) d p = (λ h. let l = le-div-iff-mul-le p .0 (≤→ℕ' h) in omega (arith, order), λ h. let l : b ≤ a / d = le-div-iff-mul-le p .1 (omega (arith, order)) in omega (arith, order))
-  where
-    ≤→ℕ' : {x y : ℕ} → pos x ≤ℤ pos y → x ≤ y
-    ≤→ℕ' h = omega (arith, order)
-floor-law (pos b) (negsuc a) d p = (λ h. absurd (h .le), λ h. let z : ⊥ = omega (arith, order) in absurd z)
+floor-law (pos b) (pos a) d p = (
+  λ h. let l : b ≤ a / d = omega (arith, order) in omega (arith, order, le-div-iff-mul-le p .0 l),
+  λ h. let l : b * d ≤ a = omega (arith, order) in omega (arith, order, le-div-iff-mul-le p .1 l),
+)
+floor-law (pos b) (negsuc a) d p = (λ h. absurd (h .le), λ h. absurd (omega (arith, order)))
 floor-law (negsuc b) (pos a) d p = (λ h. omega (arith, order, *-parts (negsuc b) (pos d), up-neg (pos (suc b * d))), λ h. omega (arith, order))
 floor-law (negsuc b) (negsuc a) d p = (
   λ h. let l : a / d < suc b = omega (arith, order) in omega (arith, order, div-lt-iff-lt-mul p .0 l, up-neg (pos (suc b * d)), dn-neg (pos (suc b * d))),
