@@ -1,2 +1,4 @@
 pub mod Figures
 pub mod Determined
+pub mod Accepted
+pub mod Signs
