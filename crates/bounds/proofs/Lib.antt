@@ -1,3 +1,5 @@
 pub mod Pair
 pub mod Uniform
 pub mod Centre
+pub mod Sets
+pub mod Traffic
