@@ -3,3 +3,4 @@ pub mod Uniform
 pub mod Centre
 pub mod Sets
 pub mod Traffic
+pub mod States
