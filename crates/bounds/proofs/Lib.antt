@@ -4,3 +4,4 @@ pub mod Centre
 pub mod Sets
 pub mod Traffic
 pub mod States
+pub mod Attained

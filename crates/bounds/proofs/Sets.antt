@@ -3,16 +3,19 @@ use mathlib.Core.Path.{_≡_, refl, sym, _∙_, ap, ap₂, subst}
 use mathlib.Core.Logic.{_⊎_, inl, inr}
 use mathlib.Core.Bool.{Bool, true, false}
 use Prim.Native.Nat.{ℕ, zero, suc, _+_, _-_, _*_, _/_, _%_, _^_, _≤_, _<_}
-use native.Mathlib.Nat.{add-comm, eq-or-lt-of-le, le-of-suc-le-suc, pow-suc}
+use native.Mathlib.Nat.{add-comm, eq-or-lt-of-le, le-of-suc-le-suc, pow-suc, mod-one, mod-lt, mod-eq-of-lt, div-eq-of-lt, div-eq-sub-div}
+use native.Mathlib.Decide.{decLe}
 use native.Mathlib.Omega.{arith}
 use lib.IntN.{ℤ, pos, _*ℤ_}
 use lib.Dec.{eqb}
-use lib.Pow.{mod-mod-pow, field, low, high, le-ones}
+use lib.Pow.{pow-pos, mod-pow-add, mod-mod-pow, field, low, high}
 use lib.Count.{ones, onesIn, ones-cat}
+use borrow.Author.Tests.{eqb-true, ne-eqb}
 use Rattle.exact.specs.Choice.{if_then_else_}
 use Rattle.exact.specs.Ranges.{sumTo, countTo}
+use Rattle.exact.proofs.Bridge.{by-test}
 use Rattle.exact.proofs.Ranges.{sum-cong}
-use Rattle.model.specs.Lanes.{bit, reduction}
+use Rattle.model.specs.Lanes.{bit, without, reduction}
 use Rattle.model.specs.Traffic.{setSum}
 
 -- the number whose bits are test 0 .. test (n - 1)
@@ -66,3 +69,36 @@ unfolding setSum
 set-sum n test hn =
     ap₂ (λ (m : ℕ) (s : ℤ). reduction m *ℤ s) (sym (set-ones n test))
     (sum-cong n _ _ (λ i h. ap (λ (t : Bool). if t then hn i else pos 0) (sym (set-bit n test i h))))
+
+-- ---- a set's bits back to the set
+-- the number of a set's bits is the set
+pub set-number : (n s : ℕ) → s < 2 ^ n → setNumber n (bit s) ≡ s
+set-number n s h = low-bits n ∙ mod-eq-of-lt h
+  where
+    digit : (x : ℕ) → x < 2 → (if eqb x 1 then 1 else 0) ≡ x
+    digit zero h = refl
+    digit (suc zero) h = refl
+    digit (suc (suc x)) h = absurd (omega arith)
+
+    low-bits : (n : ℕ) → setNumber n (bit s) ≡ s % 2 ^ n
+    low-bits zero = sym (mod-one s)
+    low-bits (suc n) =
+        let e : 1 + n ≡ suc n = omega arith in
+        ap₂ (λ (d r : ℕ). d * 2 ^ n + r) (digit (s / 2 ^ n % 2) (mod-lt _ (omega arith))) (low-bits n) ∙ sym (mod-pow-add s 1 n) ∙ ap (λ (m : ℕ). s % 2 ^ m) e
+
+-- so its ones are its bits that are set
+pub ones-count : (n s : ℕ) → s < 2 ^ n → ones s ≡ countTo n (bit s)
+ones-count n s h = ap ones (sym (set-number n s h)) ∙ set-ones n (bit s)
+
+-- a lane that is taken out is not in
+pub without-bit : (o s : ℕ) → bit (without o s) o ≡ false
+without-bit o s =
+    by-test (bit s o) (λ t. bit (if t then s - 2 ^ o else s) o ≡ false)
+    (λ t. ne-eqb _ 1 (λ e. odd (eqb-true (s / 2 ^ o % 2) 1 t) e))
+    (λ t. t)
+  where
+    odd : s / 2 ^ o % 2 ≡ 1 → (s - 2 ^ o) / 2 ^ o % 2 ≡ 1 → ⊥
+    odd a b = elim (decLe (2 ^ o) s) [
+      | yes h ↦ let e = div-eq-sub-div (pow-pos o) h in omega arith
+      | no h ↦ let e : s / 2 ^ o ≡ 0 = div-eq-of-lt (omega arith) in omega arith
+    ]
