@@ -1,25 +1,27 @@
 -- The other half of demand 3: when what is reported keeps the rules and gives its value exactly.
 use mathlib.Core.Path.{_≡_, refl, sym, _∙_, ap, ap₂, subst}
-use mathlib.Core.Bool.{Bool, true, false, false≢true}
+use mathlib.Core.Bool.{Bool, true, false, true≢false, false≢true}
 use mathlib.Core.Option.{some}
 use mathlib.Core.List.{List, _++_}
 use Prim.Native.Nat.{ℕ, zero, suc, _+_, _-_, _*_, _^_, _≤_, _<_}
 use native.Mathlib.Nat.{mul-pos, mul-add, mul-le-mul-left}
+use native.Mathlib.Decide.{decLe}
 use native.Mathlib.Omega.{arith}
 use lib.IntN.{ℤ, pos, natAbs, _+ℤ_, _*ℤ_}
 use lib.Dec.{eqb}
 use lib.ListN.{getD, length, List·getD-append}
+use borrow.Author.Tests.{eq-eqb, ne-eqb}
 use Rattle.exact.specs.Choice.{if_then_else_}
 use Rattle.exact.specs.Questions.{NoBetter, rounded}
 use Rattle.exact.specs.Ranges.{sumTo, countTo}
 use Rattle.exact.specs.declared.Question.{Question}
 use Rattle.exact.proofs.Exact.{_⊕_, _⊗_, lit, _≐_, solve}
-use Rattle.exact.proofs.Ranges.{sum-cong, sum-scale, count-cong, length-listOf, getD-listOf}
+use Rattle.exact.proofs.Ranges.{sum-cong, sum-scale, sum-zero, sum-one, count-cong, length-listOf, getD-listOf}
 use Rattle.exact.proofs.Rounding.{rounded-scale}
 use Rattle.model.specs.Job.{InfluenceLine, Job, Limit, Live, noTraffic, normal, overload}
 use Rattle.model.specs.Line.{Kind, HN, HO, axle, pair, bestPair, patchByte, patchBytes, uniformPart, lineEffect}
-use Rattle.model.specs.Lanes.{lowest, highest, reduction, transverseAt, CentreFits}
-use Rattle.model.specs.Traffic.{lanes, laneEffect, bestSum, effectOf, trafficValue}
+use Rattle.model.specs.Lanes.{lowest, highest, reduction, transverseAt, bit, CentreFits}
+use Rattle.model.specs.Traffic.{lanes, laneEffect, setSum, bestSum, effectOf, trafficValue}
 use Rattle.model.specs.Rows.{rowValue, stateValue}
 use Rattle.model.specs.Arrangements.{Element, Load, unloaded, element, Arrangement, loadedParts, elementLine, elementEffect, carries, loadEffect, lanesUnder, sumUnder, sumOf, arranged, OverloadLanes, Lawful}
 use Rattle.model.specs.Answered.{laneAt, positionOf, reportedElement, reportedLoad, reported, reportedEffect, PositionRight, extremeOf, countedTraffic, omits}
@@ -32,6 +34,7 @@ use Rattle.model.specs.declared.Account.{Account}
 use Rattle.model.proofs.Signs.{some-lane, traffic-zero, no-traffic, multiple-zero}
 use Rattle.bounds.proofs.Pair.{pair-at}
 use Rattle.bounds.proofs.Uniform.{loaded-parts-given}
+use Rattle.bounds.proofs.Sets.{ones-count}
 use Rattle.bounds.proofs.Traffic.{bestUnder, bestOf}
 use Rattle.bounds.proofs.States.{SuitsAll, row-attained, governing-row}
 
@@ -192,3 +195,66 @@ module _ (q : Question) (job : Job) (patch rest : List ℕ) (a : Account) (bytes
         go HN i (Ho sense) centre r t = absurd (false≢true t)
         go HO i (Hn sense) centre r t = absurd (false≢true t)
         go HO i (Ho sense) centre r t = element-given HO sense i centre r
+
+-- ---- a placement by its set of HN lanes
+count-false : (n : ℕ) → countTo n (λ i. false) ≡ 0
+count-false zero = refl
+count-false (suc n) = ap (λ (m : ℕ). m + 0) (count-false n)
+
+count-at : (n o : ℕ) → o < n → countTo n (λ i. eqb i o) ≡ 1
+count-at zero o h = absurd (omega arith)
+count-at (suc n) o h = elim (decLe n o) [
+  | yes l ↦
+      let e : n ≡ o = omega arith in
+      ap₂ (λ (m : ℕ) (t : Bool). m + (if t then 1 else 0)) (count-cong n _ (λ i. false) (λ i k. ne-eqb i o (λ f. omega arith)) ∙ count-false n) (eq-eqb n o e)
+  | no l ↦ ap₂ (λ (m : ℕ) (t : Bool). m + (if t then 1 else 0)) (count-at n o (omega arith)) (ne-eqb n o (λ f. omega arith))
+]
+
+module _ (q : Question) (job : Job) (p : Placement) (s : ℕ) (small : s < 2 ^ lanes job) (lanes-hn : (i : ℕ) → i < lanes job → entryIs HN (laneAt p i .entry) ≡ bit s i) where
+  set-part : reduction (placedLanes job HN p) *ℤ placedUnder q job HN p ≡ setSum (lanes job) (laneEffect q job HN) s
+  unfolding setSum
+  set-part =
+      let n = lanes job in
+      ap₂ (λ (m : ℕ) (x : ℤ). reduction m *ℤ x) (count-cong n _ _ lanes-hn ∙ sym (ones-count n s small))
+      (sum-cong n _ _ (λ i h. ap (λ (t : Bool). if t then laneEffect q job HN i else pos 0) (lanes-hn i h)))
+
+  -- without HO it sums to the set's
+  pub placed-normal : ((i : ℕ) → i < lanes job → entryIs HO (laneAt p i .entry) ≡ false) → (placedLanes job HO p ≡ 0) × (placedSum q job p ≡ setSum (lanes job) (laneEffect q job HN) s)
+  placed-normal no-ho = (
+    count-cong (lanes job) _ (λ i. false) no-ho ∙ count-false (lanes job),
+    ap₂ (λ (x y : ℤ). pos 20 *ℤ x +ℤ y) (sum-zero (lanes job) _ (λ i h. ap (λ (t : Bool). if t then laneEffect q job HO i else pos 0) (no-ho i h))) set-part
+    ∙ solve 1 (λ x. lit 20 ⊗ lit 0 ⊕ x ≐ x) tt (setSum (lanes job) (laneEffect q job HN) s),
+  )
+
+  -- with HO in lane o alone, that lane's HO too
+  pub placed-overload : (o : ℕ) → o < lanes job → ((i : ℕ) → i < lanes job → entryIs HO (laneAt p i .entry) ≡ eqb i o) → (placedLanes job HO p ≡ 1) × (placedSum q job p ≡ pos 20 *ℤ laneEffect q job HO o +ℤ setSum (lanes job) (laneEffect q job HN) s)
+  placed-overload o l one =
+      let n = lanes job in
+      let ho : ℕ → ℤ = laneEffect q job HO in
+      let picked : ℕ → ℤ = λ i. if entryIs HO (laneAt p i .entry) then ho i else pos 0 in (
+        count-cong n _ (λ i. eqb i o) one ∙ count-at n o l,
+        ap₂ (λ (x y : ℤ). pos 20 *ℤ x +ℤ y)
+        (sum-one n picked o l (λ i h d. ap (λ (t : Bool). if t then ho i else pos 0) (one i h ∙ ne-eqb i o d)) ∙ ap (λ (t : Bool). if t then ho o else pos 0) (one o l ∙ eq-eqb o o refl)) set-part,
+      )
+
+-- ---- a state
+-- the traffic counted for a row is its value, where both reported placements give theirs
+pub counted-given : (q : Question) (job : Job) (patch : List ℕ) (a : Account) (unladen : Bool) (live : Live) →
+    reportedEffect q job patch a (extremeOf q (a .normal) .placement) ≡ trafficValue q job normal → reportedEffect q job patch a (extremeOf q (a .overload) .placement) ≡ trafficValue q job overload →
+    countedTraffic q job patch a unladen live ≡ (if unladen then pos 0 else trafficValue q job live)
+counted-given q job patch a true live hn ho = refl
+counted-given q job patch a false noTraffic hn ho = sym (no-traffic q job)
+counted-given q job patch a false normal hn ho = hn
+counted-given q job patch a false overload hn ho = ho
+
+-- a reported state gives its value: its row's omissions suit, and the traffic, which never worsens, counts
+pub state-gives : (q : Question) (job : Job) (patch : List ℕ) (a : Account) (limit : Limit) (x : Governing) → zero < job .deck .g →
+    stateValue q job limit ≡ some (record { value = x .value; row = x .row }) → SuitsAll q (job .effect) (omits (x .omitted)) (job .row (x .row) .chain) → x .unladen ≡ false →
+    reportedEffect q job patch a (extremeOf q (a .normal) .placement) ≡ trafficValue q job normal → reportedEffect q job patch a (extremeOf q (a .overload) .placement) ≡ trafficValue q job overload →
+    rowValue (job .effect) (job .row (x .row)) (omits (x .omitted)) (countedTraffic q job patch a (x .unladen) (job .row (x .row) .live)) ≡ x .value
+state-gives q job patch a limit x g-pos value suits laden hn ho =
+    let row = job .row (x .row) in
+    ap (rowValue (job .effect) row (omits (x .omitted))) (counted-given q job patch a (x .unladen) (row .live) hn ho)
+    ∙ row-attained q (job .effect) (trafficValue q job) row (omits (x .omitted)) (x .unladen) suits (λ e. absurd (true≢false (sym e ∙ laden)))
+    (λ _. multiple-zero q (row .factor) _ (traffic-zero q job (row .live) g-pos))
+    ∙ sym (governing-row q job limit _ value .1)
