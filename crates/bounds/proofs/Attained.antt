@@ -9,21 +9,21 @@ use native.Mathlib.Decide.{decLe}
 use native.Mathlib.Omega.{arith}
 use lib.IntN.{ℤ, pos, natAbs, _+ℤ_, _*ℤ_}
 use lib.Dec.{eqb}
-use lib.ListN.{getD, length, List·getD-append}
+use lib.ListN.{getD, List·getD-append}
 use borrow.Author.Tests.{eq-eqb, ne-eqb}
 use Rattle.exact.specs.Choice.{if_then_else_}
-use Rattle.exact.specs.Questions.{NoBetter, rounded}
+use Rattle.exact.specs.Questions.{rounded}
 use Rattle.exact.specs.Ranges.{sumTo, countTo}
 use Rattle.exact.specs.declared.Question.{Question}
 use Rattle.exact.proofs.Exact.{_⊕_, _⊗_, lit, _≐_, solve}
 use Rattle.exact.proofs.Ranges.{sum-cong, sum-scale, sum-zero, sum-one, count-cong, length-listOf, getD-listOf}
 use Rattle.exact.proofs.Rounding.{rounded-scale}
 use Rattle.model.specs.Job.{InfluenceLine, Job, Limit, Live, noTraffic, normal, overload}
-use Rattle.model.specs.Line.{Kind, HN, HO, axle, pair, bestPair, patchByte, patchBytes, uniformPart, lineEffect}
+use Rattle.model.specs.Line.{Kind, HN, HO, axle, bestPair, patchByte, patchBytes, uniformPart, lineEffect}
 use Rattle.model.specs.Lanes.{lowest, highest, reduction, transverseAt, bit, CentreFits}
 use Rattle.model.specs.Traffic.{lanes, laneEffect, setSum, bestSum, effectOf, trafficValue}
 use Rattle.model.specs.Rows.{rowValue, stateValue}
-use Rattle.model.specs.Arrangements.{Element, Load, unloaded, element, Arrangement, loadedParts, elementLine, elementEffect, carries, loadEffect, lanesUnder, sumUnder, sumOf, arranged, OverloadLanes, Lawful}
+use Rattle.model.specs.Arrangements.{Element, Load, unloaded, element, Arrangement, elementLine, elementEffect, carries, loadEffect, lanesUnder, sumUnder, sumOf, arranged, OverloadLanes, Lawful}
 use Rattle.model.specs.Answered.{laneAt, positionOf, reportedElement, reportedLoad, reported, reportedEffect, PositionRight, extremeOf, countedTraffic, omits}
 use Rattle.model.specs.declared.Sense.{Sense}
 use Rattle.model.specs.declared.Entry.{Entry}
@@ -223,7 +223,7 @@ module _ (q : Question) (job : Job) (p : Placement) (s : ℕ) (small : s < 2 ^ l
   placed-normal no-ho = (
     count-cong (lanes job) _ (λ i. false) no-ho ∙ count-false (lanes job),
     ap₂ (λ (x y : ℤ). pos 20 *ℤ x +ℤ y) (sum-zero (lanes job) _ (λ i h. ap (λ (t : Bool). if t then laneEffect q job HO i else pos 0) (no-ho i h))) set-part
-    ∙ solve 1 (λ x. lit 20 ⊗ lit 0 ⊕ x ≐ x) tt (setSum (lanes job) (laneEffect q job HN) s),
+        ∙ solve 1 (λ x. lit 20 ⊗ lit 0 ⊕ x ≐ x) tt (setSum (lanes job) (laneEffect q job HN) s),
   )
 
   -- with HO in lane o alone, that lane's HO too
@@ -234,7 +234,7 @@ module _ (q : Question) (job : Job) (p : Placement) (s : ℕ) (small : s < 2 ^ l
       let picked : ℕ → ℤ = λ i. if entryIs HO (laneAt p i .entry) then ho i else pos 0 in (
         count-cong n _ (λ i. eqb i o) one ∙ count-at n o l,
         ap₂ (λ (x y : ℤ). pos 20 *ℤ x +ℤ y)
-        (sum-one n picked o l (λ i h d. ap (λ (t : Bool). if t then ho i else pos 0) (one i h ∙ ne-eqb i o d)) ∙ ap (λ (t : Bool). if t then ho o else pos 0) (one o l ∙ eq-eqb o o refl)) set-part,
+            (sum-one n picked o l (λ i h d. ap (λ (t : Bool). if t then ho i else pos 0) (one i h ∙ ne-eqb i o d)) ∙ ap (λ (t : Bool). if t then ho o else pos 0) (one o l ∙ eq-eqb o o refl)) set-part,
       )
 
 -- ---- a state

@@ -2,7 +2,7 @@
 use mathlib.Core.Path.{_≡_, refl, sym, _∙_, ap, ap₂, subst}
 use mathlib.Core.Logic.{_⊎_, inl, inr}
 use mathlib.Core.Bool.{Bool, true, false}
-use Prim.Native.Nat.{ℕ, zero, suc, _+_, _-_, _*_, _/_, _%_, _^_, _≤_, _<_}
+use Prim.Native.Nat.{ℕ, zero, suc, _+_, _-_, _*_, _/_, _%_, _^_, _<_}
 use native.Mathlib.Nat.{add-comm, eq-or-lt-of-le, le-of-suc-le-suc, pow-suc, mod-one, mod-lt, mod-eq-of-lt, div-eq-of-lt, div-eq-sub-div}
 use native.Mathlib.Decide.{decLe}
 use native.Mathlib.Omega.{arith}

@@ -1,6 +1,6 @@
 -- Demand 3 for the limit states: no row, with any omission and any traffic, beats the state's value; and when a row's omissions attain its best.
 use mathlib.Core.Path.{_≡_, refl, sym, _∙_, ap, ap₂, subst}
-use mathlib.Core.Bool.{Bool, true, false, _&&_, false≢true, true≢false, and-eq-true-iff}
+use mathlib.Core.Bool.{Bool, true, false, _&&_, false≢true, true≢false}
 use mathlib.Core.Option.{Option, none, some, Option·some-injective, Option·some-ne-none}
 use mathlib.Core.List.{List, [], _∷_}
 use Prim.Native.Nat.{ℕ, zero, suc, _≤_, _<_}
@@ -15,7 +15,7 @@ use Rattle.exact.proofs.Exact.{_⊗_, lit, _≐_, solve}
 use Rattle.exact.proofs.Extremes.{no-better-refl, no-better-trans, no-better-antisym, no-better-add, no-better-scale, better-left, better-right, better-least, beats-yes, beats-no}
 use Rattle.model.specs.Job.{Effect, Term, Row, Limit, service, ultimate, Live, Job}
 use Rattle.model.specs.Traffic.{trafficValue}
-use Rattle.model.specs.Rows.{share, chainValue, rowValue, names, MayOmit, bestChain, bestRow, Governs, laterIfBetter, isOf, governing, stateValue}
+use Rattle.model.specs.Rows.{share, chainValue, rowValue, MayOmit, bestChain, bestRow, Governs, laterIfBetter, isOf, governing, stateValue}
 use Rattle.model.specs.Arrangements.{Arrangement, arranged, Lawful}
 use Rattle.model.specs.Answered.{RowOf}
 use Rattle.model.proofs.Accepted.{OneSigned}

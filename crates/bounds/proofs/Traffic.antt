@@ -3,7 +3,7 @@ use mathlib.Core.Path.{_≡_, refl, sym, _∙_, ap, ap₂, subst}
 use mathlib.Core.Bool.{Bool, true, false, false≢true}
 use mathlib.Core.Option.{none}
 use mathlib.Core.List.{List}
-use Prim.Native.Nat.{ℕ, zero, suc, _-_, _*_, _^_, _≤_, _<_}
+use Prim.Native.Nat.{ℕ, zero, _-_, _*_, _^_, _≤_, _<_}
 use native.Mathlib.Nat.{mul-pos}
 use native.Mathlib.Omega.{arith}
 use lib.IntN.{ℤ, pos, _+ℤ_, _*ℤ_}
@@ -11,19 +11,19 @@ use lib.Signed.{_≤ℤ_}
 use lib.Dec.{ltb, eqb}
 use lib.Pow.{le-ones}
 use Rattle.exact.specs.Choice.{if_then_else_}
-use Rattle.exact.specs.Questions.{NoBetter, extreme, rounded}
+use Rattle.exact.specs.Questions.{NoBetter, extreme}
 use Rattle.exact.specs.Ranges.{sumTo}
 use Rattle.exact.specs.declared.Question.{Question}
 use Rattle.exact.proofs.Bridge.{by-test}
 use Rattle.exact.proofs.Exact.{pos-nonneg, _⊕_, _⊗_, lit, _≐_, solve}
-use Rattle.exact.proofs.Extremes.{no-better-refl, no-better-of-eq, no-better-trans, no-better-add, no-better-mul, no-better-scale, extreme-bounds}
+use Rattle.exact.proofs.Extremes.{no-better-of-eq, no-better-trans, no-better-add, no-better-mul, no-better-scale, extreme-bounds}
 use Rattle.exact.proofs.Ranges.{sum-mono, sum-scale, sum-zero, sum-one, count-none, count-one}
 use Rattle.exact.proofs.Rounding.{rounded-cross}
 use Rattle.model.specs.Job.{Job, Live, noTraffic, normal, overload}
 use Rattle.model.specs.Decode.{decode}
 use Rattle.model.specs.Refusals.{verdict}
 use Rattle.model.specs.Line.{Kind, HN, HO}
-use Rattle.model.specs.Lanes.{reduction, transverseUnit, bit, without}
+use Rattle.model.specs.Lanes.{reduction, without}
 use Rattle.model.specs.Traffic.{lanes, laneEffect, setSum, bestNormal, bestOverload, bestSum, effectOf, trafficValue}
 use Rattle.model.specs.Arrangements.{Element, Load, unloaded, element, Arrangement, elementEffect, carries, loadEffect, lanesUnder, sumUnder, sumOf, arranged, OverloadLanes, Lawful}
 use Rattle.model.proofs.Accepted.{OneSigned, accepted-signed, accepted-spaced}
