@@ -1,6 +1,6 @@
 -- No element in a lane beats the lane's best: the transverse line is straight between its ordinates, and these and the lane's limits are whole n-ths of a cm.
-use mathlib.Core.Path.{_≡_, refl, sym, _∙_, ap, ap₂, subst}
-use mathlib.Core.Logic.{_⊎_, inl, inr}
+use mathlib.Core.Path.{_≡_, sym, _∙_, ap, ap₂, subst}
+use mathlib.Core.Logic.{inl, inr}
 use Prim.Native.Nat.{ℕ, zero, suc, _+_, _-_, _*_, _/_, _%_, _≤_, _<_}
 use native.Mathlib.Nat.{div-add-mod, mod-lt, mod-eq-of-lt, div-eq-of-lt, mul-add-div, mul-add-mod-self-left, add-zero, mul-pos, mul-assoc, mul-add, mul-left-comm, mul-le-mul-left, le-of-mul-le-mul-left, mul-suc, mul-sub, eq-or-lt-of-le, le-of-lt}
 use native.Mathlib.Decide.{decLe}
@@ -13,11 +13,10 @@ use Rattle.exact.specs.declared.Question.the-variants.{Greatest, Least}
 use Rattle.exact.proofs.Exact.{total, pos-mono, prod, _⊕_, _⊗_, _⊝_, lit, _≐_, _≼_, _⇒_, solve, linear}
 use Rattle.exact.proofs.Extremes.{no-better-trans, no-better-antisym, no-better-scale, no-better-cancel, better-left, better-right, better-ind, better-least, extreme-bounds, extreme-least, extreme-met}
 use Rattle.model.specs.Job.{Carriageway, Job}
-use Rattle.model.specs.Line.{Kind, lineEffect}
+use Rattle.model.specs.Line.{lineEffect}
 use Rattle.model.specs.Lanes.{lanesOf, lowest, highest, transverseAt, bestOrdinate, CentreFits}
 use Rattle.model.specs.Traffic.{lanes, bestInLane, laneEffect}
 use Rattle.model.specs.Arrangements.{Element, elementLine, elementEffect}
-use Rattle.model.specs.declared.Sense.{Sense}
 use Rattle.model.specs.declared.Sense.the-variants.{Raising, Lowering}
 use Rattle.model.proofs.Accepted.{OneSigned}
 use Rattle.model.proofs.Signs.{some-lane, between-products}

@@ -14,7 +14,7 @@ use Rattle.exact.specs.Questions.{NoBetter}
 use Rattle.exact.proofs.Exact.{order, ℕ→≤, ℕ→<, lt→le, pos-nonneg, prod, _⊕_, _⊗_, _⊝_, neg, lit, _≐_, _≼_, _≺_, _⇒_, solve, linear}
 use Rattle.exact.proofs.Extremes.{no-better-between}
 use Rattle.model.specs.Job.{InfluenceLine}
-use Rattle.model.specs.Line.{along, ordinate, pair, bestPair, axleSpacing, sought, rightOf, leftOf}
+use Rattle.model.specs.Line.{along, ordinate, pair, bestPair, axleSpacing, sought}
 use Rattle.model.specs.declared.Side.{Side}
 use Rattle.model.specs.declared.Side.the-variants.{Left, Right}
 use Rattle.model.specs.declared.Sense.{Sense}

@@ -1,9 +1,9 @@
 -- No set of loaded k-ths beats a sense's whole pieces, and no element its sense's line effect.
-use mathlib.Core.Path.{_≡_, refl, sym, _∙_, ap, subst}
+use mathlib.Core.Path.{_≡_, refl, _∙_, ap, subst}
 use mathlib.Core.Logic.{_⊎_, inl, inr}
 use mathlib.Core.Bool.{Bool, true, false}
 use mathlib.Core.List.{List}
-use Prim.Native.Nat.{ℕ, zero, suc, _*_, _≤_, _<_}
+use Prim.Native.Nat.{ℕ, zero, suc, _*_, _<_}
 use native.Mathlib.Numerals.{add-one}
 use native.Mathlib.Omega.{arith}
 use lib.Dec.{eqb}
@@ -18,7 +18,7 @@ use Rattle.exact.proofs.Exact.{_⊕_, _⊗_, _⊝_, lit, _≐_, solve}
 use Rattle.exact.proofs.Extremes.{no-better-refl, no-better-trans, no-better-add, no-better-scale, no-better-between}
 use Rattle.exact.proofs.Ranges.{sum-cong, sum-mono, sum-scale, sum-zero}
 use Rattle.model.specs.Job.{Piece, InfluenceLine}
-use Rattle.model.specs.Line.{axle, uniform, along, pair, endSum, patchByte, loadedByte, sought, loadedSum, uniformPart, bestPair, lineEffect}
+use Rattle.model.specs.Line.{axle, uniform, along, endSum, patchByte, loadedByte, sought, loadedSum, uniformPart, bestPair, lineEffect}
 use Rattle.model.specs.Arrangements.{Element, loadedParts, elementLine}
 use Rattle.model.specs.declared.Sense.{Sense}
 use Rattle.model.proofs.Accepted.{Sided, above, below, OneSigned}

@@ -187,6 +187,11 @@ some-lane w =
     let P : ℕ → Type 0 = λ n. zero < n in
     either P (ltb w 600) _ _ (omega arith) (either P (ltb w 970) _ _ (omega arith) (either P (ltb w 1340) _ _ (omega arith) (either P (ltb w 1710) _ _ (omega arith) (omega arith))))
 
+-- without traffic the value is 0
+pub no-traffic : (q : Question) (job : Job) → trafficValue q job noTraffic ≡ pos 0
+unfolding trafficValue effectOf bestSum
+no-traffic q job = ap (λ (x : ℤ). rounded q (pos 3 *ℤ x) (800000 * transverseUnit (job .deck) (lanes job))) (solve 1 (λ y. y ⊗ lit 0 ≐ lit 0) tt (pos (job .dynamic q))) ∙ rounded-zero q (800000 * transverseUnit (job .deck) (lanes job))
+
 -- 0 beats no traffic value
 pub traffic-zero : (q : Question) (job : Job) (live : Live) → zero < job .deck .g → NoBetter q (pos 0) (trafficValue q job live)
 unfolding trafficValue effectOf
