@@ -176,18 +176,22 @@ StateRight job patch a limit (Reported greatest least) = GoverningRight job patc
 
 -- ---- the whole
 
+-- an account is right for a job, its placements read with the patch buffer
+pub record AccountRight (job : Job) (patch : List ℕ) (a : Account) : Type 0 where
+  pub normalGreatest : TrafficRight job patch a Greatest normal (a .normal .greatest)
+  pub normalLeast : TrafficRight job patch a Least normal (a .normal .least)
+  pub overloadGreatest : TrafficRight job patch a Greatest overload (a .overload .greatest)
+  pub overloadLeast : TrafficRight job patch a Least overload (a .overload .least)
+  pub raising : PositionRight (job .line) Raising (a .raising)
+  pub lowering : PositionRight (job .line) Lowering (a .lowering)
+  pub service : StateRight job patch a service (a .service)
+  pub ultimate : StateRight job patch a ultimate (a .ultimate)
+
 -- the answer to an accepted job
 pub record Accepted (job : Job) (before : List ℕ) (answer : Answer) (after : List ℕ) : Type 0 where
   pub refusal : answer .refusal ≡ 0
   pub place : answer .place ≡ 0
-  pub normalGreatest : TrafficRight job after (answer .account) Greatest normal (answer .account .normal .greatest)
-  pub normalLeast : TrafficRight job after (answer .account) Least normal (answer .account .normal .least)
-  pub overloadGreatest : TrafficRight job after (answer .account) Greatest overload (answer .account .overload .greatest)
-  pub overloadLeast : TrafficRight job after (answer .account) Least overload (answer .account .overload .least)
-  pub raising : PositionRight (job .line) Raising (answer .account .raising)
-  pub lowering : PositionRight (job .line) Lowering (answer .account .lowering)
-  pub service : StateRight job after (answer .account) service (answer .account .service)
-  pub ultimate : StateRight job after (answer .account) ultimate (answer .account .ultimate)
+  pub account : AccountRight job after (answer .account)
   -- a byte a piece; bytes past N keep their old contents
   pub patch : after ≡ patchBytes (job .line) ++ drop (job .line .pieces) before
 
