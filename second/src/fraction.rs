@@ -33,6 +33,10 @@ impl Fraction {
         }
     }
 
+    pub fn is_below(self, other: Fraction) -> bool {
+        times(self.numerator, other.denominator) < times(other.numerator, self.denominator)
+    }
+
     /// Rounded to a whole: up for greatest, down for least.
     pub fn round(self, question: Question) -> i128 {
         question.round(self.numerator, self.denominator)

@@ -5,7 +5,10 @@
 #![forbid(unsafe_code)]
 
 pub mod account;
+pub mod arrangement;
+pub mod checker;
 pub mod fraction;
+pub mod generator;
 pub mod job;
 pub mod job_a;
 pub mod lanes;
@@ -13,6 +16,7 @@ pub mod line;
 pub mod loads;
 pub mod refusals;
 pub mod report;
+pub mod rng;
 pub mod rows;
 pub mod sections;
 pub mod solve;
