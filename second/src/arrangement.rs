@@ -148,7 +148,7 @@ fn uniform_load_on(job: &Job, range: &Range<i128>, k: i128) -> i128 {
 
 /// The ordinate, times k, under an axle this many k-ths of a piece from the
 /// line's left end; at a station, the one on its side.
-fn ordinate_at(job: &Job, place: i128, side: Side, k: i128) -> i128 {
+pub(crate) fn ordinate_at(job: &Job, place: i128, side: Side, k: i128) -> i128 {
     let (number, beyond) = (place.div_euclid(k), place.rem_euclid(k));
     // An axle at a station, seen from the left, is at the end of the piece
     // before it.
@@ -166,7 +166,7 @@ fn ordinate_at(job: &Job, place: i128, side: Side, k: i128) -> i128 {
 
 /// The transverse ordinate, in thousandths, this many k-ths of a cm from the
 /// left kerb.
-fn transverse_ordinate(job: &Job, centre: i128, k: i128) -> Fraction {
+pub(crate) fn transverse_ordinate(job: &Job, centre: i128, k: i128) -> Fraction {
     let spacing = i128::from(job.spacing) * k;
     let (number, beyond) = ((centre / spacing) as usize, centre % spacing);
     let ordinate = |number: usize| i128::from(job.transverse[number]);

@@ -5,6 +5,7 @@ use crate::job::{
     Effect, Job, Piece, Record, Row, ALWAYS_PRESENT, LIVE_NONE, LIVE_NORMAL, LIVE_OVERLOAD,
     MAY_BE_LEFT_OUT, SERVICE, ULTIMATE,
 };
+use crate::loads::AXLE_DISTANCE;
 use crate::rng::Rng;
 use crate::sections::{
     self, Sections, HEADER_WORDS, WORDS_PER_EFFECT, WORDS_PER_PIECE, WORDS_PER_RECORD,
@@ -44,6 +45,9 @@ const LONGEST_LINE: i64 = 1000;
 
 /// A job that 01 names no refusal for, given a long enough patch buffer.
 pub fn sound_job(rng: &mut Rng) -> Job {
+    if rng.one_in(32) {
+        return extreme_job(rng);
+    }
     let piece_length = rng.pick(&PIECE_LENGTHS);
     let most_pieces = LONGEST_LINE / piece_length;
     let pieces = match rng.below(8) {
@@ -71,11 +75,56 @@ pub fn sound_job(rng: &mut Rng) -> Job {
         width,
         dynamic_kind,
         dynamic_value,
-        pieces: sound_line(rng, pieces as usize),
+        pieces: sound_line(
+            rng,
+            pieces as usize,
+            (AXLE_DISTANCE / piece_length) as usize,
+        ),
         transverse: sound_transverse(rng, last_ordinate as usize + 1),
         effects,
         rows,
         records,
+    }
+}
+
+/// A job with every number at an end of its limits, so that the values are the
+/// largest there are.
+fn extreme_job(rng: &mut Rng) -> Job {
+    let piece_length = rng.pick(&PIECE_LENGTHS);
+    let spacing = rng.pick(&[10, 49, 50]);
+    let width = rng.pick(&[1710, 2079]);
+    let ordinate = 5000 * sign(rng);
+    let level = 1000 * sign(rng);
+    let value = 1_000_000_000 * sign(rng);
+    let mark = rng.pick(&[ALWAYS_PRESENT, MAY_BE_LEFT_OUT]);
+    let piece = Piece {
+        left: ordinate,
+        right: ordinate,
+    };
+    let row = |state, live_kind| Row {
+        state,
+        live_kind,
+        live_factor: 3000,
+        first: 1,
+    };
+    let last_ordinate = (width + spacing - 1) / spacing;
+    Job {
+        piece_length,
+        spacing,
+        width,
+        dynamic_kind: 1,
+        dynamic_value: 1300,
+        pieces: vec![piece; (LONGEST_LINE / piece_length) as usize],
+        transverse: vec![level; last_ordinate as usize + 1],
+        effects: vec![Effect { value, mark }; 16],
+        rows: vec![row(SERVICE, LIVE_NORMAL), row(ULTIMATE, LIVE_OVERLOAD)],
+        records: (1..=16)
+            .map(|number| Record {
+                effect: number,
+                factor: 3000,
+                next: if number < 16 { number + 1 } else { 0 },
+            })
+            .collect(),
     }
 }
 
@@ -109,13 +158,14 @@ fn sign(rng: &mut Rng) -> i64 {
 }
 
 /// A piece's ordinates never have two signs.
-fn sound_line(rng: &mut Rng, pieces: usize) -> Vec<Piece> {
+fn sound_line(rng: &mut Rng, pieces: usize, between_axles: usize) -> Vec<Piece> {
     let most = rng.pick(&[1, 20, 500, 5000]);
     let sign_of_all = sign(rng);
     let mirrored = |value: i64| sign_of_all * value;
     let last = pieces - 1;
     let peak = rng.index(pieces + 1) as i64;
-    let shape = rng.below(11);
+    let overhang = rng.index(between_axles) + 1;
+    let shape = rng.below(13);
     // A joined line's ordinates at its stations.
     let mut stations: Vec<i64> = (0..=pieces as i64)
         .map(|station| match shape {
@@ -202,6 +252,16 @@ fn sound_line(rng: &mut Rng, pieces: usize) -> Vec<Piece> {
                 let height = rng.between(-most, most);
                 let (left, right) = rng.pick(&[(height, 0), (0, height)]);
                 Piece { left, right }
+            }
+            // One sign near an end and the other beyond, so that the far axle
+            // had better stand off the line.
+            10 | 11 => {
+                let from_end = if shape == 10 { number } else { last - number };
+                let side = if from_end < overhang { 1 } else { -1 };
+                Piece {
+                    left: mirrored(side * rng.between(0, most)),
+                    right: mirrored(side * rng.between(0, most)),
+                }
             }
             // All zero.
             _ => Piece { left: 0, right: 0 },

@@ -18,6 +18,7 @@ pub mod refusals;
 pub mod report;
 pub mod rng;
 pub mod rows;
+pub mod sampler;
 pub mod sections;
 pub mod solve;
 pub mod traffic;

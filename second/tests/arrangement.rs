@@ -1,5 +1,7 @@
 //! 01 "Arrangements, for demand 3": hand-worked arrangements, and the rules.
 
+#![allow(clippy::single_range_in_vec_init)] // One loaded range is meant.
+
 mod common;
 
 use common::{level_job, two_lane_job};

@@ -5,7 +5,8 @@ use second::account::Account;
 use second::generator::{case, damaged, Case};
 use second::job::Job;
 use second::lanes::lane_count;
-use second::line::patch_byte;
+use second::line::{pair_ordinates, patch_byte, pieces_between_axles, stations, Stand};
+use second::loads::Side;
 use second::rng::Rng;
 use second::sections::Sections;
 use second::words::words_of;
@@ -37,7 +38,7 @@ fn refusal_labels(case: &Case, answer: &Answer) -> Vec<String> {
     match number {
         1 if case.job.is_empty() => reached("no bytes"),
         1 if case.job.len() < 40 => reached("short"),
-        1 if case.job.len() % 4 != 0 => reached("uneven"),
+        1 if !case.job.len().is_multiple_of(4) => reached("uneven"),
         1 => reached("edition"),
         2 => {
             reached(&format!("word {place}"));
@@ -210,6 +211,12 @@ fn outcome_labels(job: &Job, account: &Account) -> Vec<String> {
         ("overload greatest", account.overload_greatest),
         ("overload least", account.overload_least),
     ];
+    if account.overload_greatest.value == 33_423_000_000 {
+        labels.push("the largest overload greatest".into());
+    }
+    if account.overload_least.value == -33_423_000_000 {
+        labels.push("the largest overload least".into());
+    }
     for (name, traffic) in traffic {
         labels.push(format!("{name} on {} lanes", traffic.set.count_ones()));
         if traffic.set.count_ones() < lane_count(job.width) as u32 && traffic.value != 0 {
@@ -224,11 +231,34 @@ fn outcome_labels(job: &Job, account: &Account) -> Vec<String> {
     }
     for (name, stand) in [("raising", account.raising), ("lowering", account.lowering)] {
         labels.push(format!("{name} side {}", stand.side));
-        if stand.station < 0 {
-            labels.push(format!("{name} left of the line"));
+        // Whether every best stand has an axle off the line.
+        let sum_at = |station: i64, side: Side| {
+            let sum = pair_ordinates(job, Stand { station, side });
+            if name == "raising" {
+                sum
+            } else {
+                -sum
+            }
+        };
+        let best_of = |stations: std::ops::RangeInclusive<i64>| {
+            let sums = stations
+                .flat_map(|station| [Side::Left, Side::Right].map(|side| sum_at(station, side)));
+            sums.max().unwrap_or(0)
+        };
+        let (first, last) = stations(job).into_inner();
+        if best_of(first..=-1) > best_of(0..=last) {
+            labels.push(format!("{name} with the left axle off the line"));
         }
-        if stand.station > 0 {
-            labels.push(format!("{name} right of the left end"));
+        let last_on = last - pieces_between_axles(job);
+        if best_of(last_on + 1..=last) > best_of(first..=last_on) {
+            labels.push(format!("{name} with the right axle off the line"));
+        }
+        let best_from = |side: Side| (first..=last).map(|at| sum_at(at, side)).max();
+        if best_from(Side::Left) > best_from(Side::Right) {
+            labels.push(format!("{name} from the left only"));
+        }
+        if best_from(Side::Right) > best_from(Side::Left) {
+            labels.push(format!("{name} from the right only"));
         }
     }
     for (name, state) in [("service", account.service), ("ultimate", account.ultimate)] {
@@ -257,6 +287,8 @@ fn outcome_labels(job: &Job, account: &Account) -> Vec<String> {
 fn expected_labels() -> BTreeSet<String> {
     let mut expected: BTreeSet<String> = [
         "a longer patch buffer",
+        "the largest overload greatest",
+        "the largest overload least",
         "1: no bytes",
         "1: short",
         "1: uneven",
@@ -392,8 +424,10 @@ fn expected_labels() -> BTreeSet<String> {
     for direction in ["raising", "lowering"] {
         due(format!("{direction} side 0"));
         due(format!("{direction} side 1"));
-        due(format!("{direction} left of the line"));
-        due(format!("{direction} right of the left end"));
+        due(format!("{direction} with the left axle off the line"));
+        due(format!("{direction} with the right axle off the line"));
+        due(format!("{direction} from the left only"));
+        due(format!("{direction} from the right only"));
     }
     expected
 }
@@ -448,5 +482,5 @@ fn the_cases_never_change() {
             sum = (sum ^ u64::from(byte)).wrapping_mul(0x0000_0100_0000_01B3);
         }
     }
-    assert_eq!(sum, 4746566800339221362);
+    assert_eq!(sum, 3_699_499_953_521_068_672);
 }
