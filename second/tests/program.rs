@@ -14,9 +14,13 @@ fn second(arguments: &[&str], input: Stdio) -> Output {
 
 /// Runs the program on these bytes, by way of a file of this name.
 fn second_on(name: &str, bytes: &[u8]) -> Output {
+    command_on(&[], name, bytes)
+}
+
+fn command_on(arguments: &[&str], name: &str, bytes: &[u8]) -> Output {
     let path = scratch(name);
     fs::write(&path, bytes).unwrap();
-    second(&[], Stdio::from(File::open(&path).unwrap()))
+    second(arguments, Stdio::from(File::open(&path).unwrap()))
 }
 
 fn scratch(name: &str) -> PathBuf {
@@ -119,8 +123,76 @@ ultimate greatest 0 row 1 least 0 row 1
 }
 
 #[test]
+fn account_adds_placements_and_omissions() {
+    let expected = format!(
+        "{JOB_A_LINES}\
+raising station 5 left
+lowering station -5 left
+normal greatest lane set 3
+  lane 1 HN raising centre 300
+  lane 2 HN raising centre 1020
+normal least lane set 0
+overload greatest lane set 3
+  lane 1 HO raising centre 300
+  lane 2 HN raising centre 1020
+overload least lane set 1
+  lane 1 HO lowering centre 300
+service greatest leaves out nothing
+service least leaves out nothing
+ultimate greatest leaves out nothing
+ultimate least leaves out nothing
+"
+    );
+    prints(&command_on(&["account"], "account", &job_a()), &expected);
+    prints(&second(&["account"], Stdio::null()), "refused 1 at 0\n");
+}
+
+#[test]
+fn beat_says_that_job_a_is_not_beaten() {
+    let output = command_on(&["beat", "1", "300"], "beat", &job_a());
+    prints(&output, "not beaten in 300 tries\n");
+    prints(
+        &second(&["beat", "1", "1"], Stdio::null()),
+        "refused 1 at 0\n",
+    );
+}
+
+#[test]
+fn generate_writes_the_cases_of_its_seeds() {
+    let directory = scratch("generated");
+    fs::create_dir_all(&directory).unwrap();
+    let output = second(
+        &["generate", "7", "3", directory.to_str().unwrap()],
+        Stdio::null(),
+    );
+    prints(&output, "");
+    for seed in 7..10 {
+        let case = second::generator::case(seed);
+        let file = |ending: &str| fs::read(directory.join(format!("{seed}.{ending}"))).unwrap();
+        assert_eq!((file("job"), file("patch")), (case.job, case.patch));
+    }
+    let missing = scratch("missing-directory");
+    let output = second(
+        &["generate", "7", "1", missing.to_str().unwrap()],
+        Stdio::null(),
+    );
+    assert_eq!(output.status.code(), Some(1));
+    assert!(output.stderr.starts_with(b"second: cannot write"));
+}
+
+#[test]
 fn unknown_arguments_are_a_usage_error() {
-    for arguments in [&["unknown"][..], &["job-a", "more"], &["--help"], &[""]] {
+    for arguments in [
+        &["unknown"][..],
+        &["job-a", "more"],
+        &["--help"],
+        &[""],
+        &["generate", "1", "2"],
+        &["generate", "-1", "2", "."],
+        &["generate", "18446744073709551615", "1", "."],
+        &["beat", "1", "4294967296"],
+        &["beat", "one", "1"],
+    ] {
         let output = second(arguments, Stdio::null());
         assert_eq!(output.status.code(), Some(2), "{arguments:?}");
         assert_eq!(printed(&output), "");
