@@ -71,7 +71,7 @@ fn refuses(call: &Call, changes: &[(&str, Change)]) {
 
 #[test]
 fn right_answers_to_generated_cases_pass() {
-    for seed in 0..4000 {
+    for seed in 0..2000 {
         let case = case(seed);
         let call = Call::new(&case.job, &case.patch);
         assert_eq!(call.check(), Ok(()), "seed {seed}");
@@ -537,7 +537,7 @@ fn equally_good_omissions_are_free() {
 /// 01 leaves that number free; values and governing rows never are.
 #[test]
 fn no_changed_value_or_row_passes() {
-    for seed in 0..1500 {
+    for seed in 0..500 {
         let case = case(seed);
         let call = Call::new(&case.job, &case.patch);
         let changes: [Change; 10] = [

@@ -13,7 +13,7 @@ use second::words::words_of;
 use second::{solve, Answer};
 use std::collections::BTreeSet;
 
-const CASES: u64 = 12_000;
+const CASES: u64 = 8_000;
 
 /// What is worth reaching about a case.
 fn labels(case: &Case, answer: &Answer) -> Vec<String> {

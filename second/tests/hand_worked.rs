@@ -266,6 +266,30 @@ fn the_lowest_row_is_given_at_a_tie() {
     assert!(lines.ends_with("service none\nultimate greatest 1000000000 row 3 least 0 row 1\n"));
 }
 
+/// What counts 0 either way is kept: effect 3 of value 0, effect 2 at factor 0
+/// and the traffic at factor 0.
+#[test]
+fn nothing_is_left_out_in_vain() {
+    let mut job = two_lane_job();
+    job.records[1].factor = 0;
+    job.rows[0].live_factor = 0;
+    job.rows.remove(1);
+    job.rows.remove(1);
+    let account = account(&job);
+    for governing in [
+        account.service.greatest,
+        account.service.least,
+        account.ultimate.greatest,
+        account.ultimate.least,
+    ] {
+        assert_eq!((governing.omitted, governing.traffic_left_out), (0, 0));
+    }
+    assert_eq!(
+        (account.service.greatest.row, account.ultimate.least.row),
+        (1, 2)
+    );
+}
+
 /// The extremes at once: 1000 pieces of 5000 at h 1, so 7 * 10000 * 1000 = 7e7
 /// and the pair 1600 * 10000 = 1.6e7; five lanes at 1000, 60 twentieths, 1300:
 /// 8.6e7 * 1000 * 60 * 1300 * 3 / 800000 = 25155000000. Overload: HO 1.02e8 *
