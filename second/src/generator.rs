@@ -157,140 +157,198 @@ fn sign(rng: &mut Rng) -> i64 {
     rng.pick(&[-1, 1])
 }
 
-/// A piece's ordinates never have two signs.
+#[derive(Clone, Copy, PartialEq, Eq)]
+enum LineShape {
+    OneSigned,
+    /// Of both signs, joined; 0 where a piece would have two.
+    Mixed,
+    /// As for the moment of a simple girder.
+    Triangle,
+    Level,
+    /// Gaps and jumps between pieces.
+    Jumps,
+    /// Ordinates at their limits, and zeros beside them.
+    Extremes,
+    Spikes,
+    /// A jump from one sign to the other, as for a shear force.
+    Shear,
+    /// Zero but for the line's two ends.
+    EndsOnly,
+    /// Each piece with one ordinate of 0.
+    OneEndOfEach,
+    /// One sign near an end and the other beyond, so that the far axle had
+    /// better stand off the line.
+    LeftOverhang,
+    RightOverhang,
+    Zero,
+}
+
+const LINE_SHAPES: [LineShape; 13] = [
+    LineShape::OneSigned,
+    LineShape::Mixed,
+    LineShape::Triangle,
+    LineShape::Level,
+    LineShape::Jumps,
+    LineShape::Extremes,
+    LineShape::Spikes,
+    LineShape::Shear,
+    LineShape::EndsOnly,
+    LineShape::OneEndOfEach,
+    LineShape::LeftOverhang,
+    LineShape::RightOverhang,
+    LineShape::Zero,
+];
+
+/// A line of a shape drawn at random; no piece has ordinates of two signs.
 fn sound_line(rng: &mut Rng, pieces: usize, between_axles: usize) -> Vec<Piece> {
     let most = rng.pick(&[1, 20, 500, 5000]);
     let sign_of_all = sign(rng);
-    let mirrored = |value: i64| sign_of_all * value;
-    let last = pieces - 1;
-    let peak = rng.index(pieces + 1) as i64;
-    let overhang = rng.index(between_axles) + 1;
-    let shape = rng.below(13);
-    // A joined line's ordinates at its stations.
-    let mut stations: Vec<i64> = (0..=pieces as i64)
-        .map(|station| match shape {
-            // One-signed.
-            0 => mirrored(rng.between(0, most)),
-            // Of mixed signs; a piece is cut to 0 where it would have two.
-            1 => rng.between(-most, most),
-            // A triangle, as for the moment of a simple girder.
-            2 => {
-                let (run, from_end) = if station <= peak {
-                    (peak, station)
-                } else {
-                    (pieces as i64 - peak, pieces as i64 - station)
-                };
-                mirrored(most * from_end / run.max(1))
-            }
-            // Level.
-            3 => mirrored(most),
-            _ => 0,
-        })
-        .collect();
-    for station in 1..stations.len() {
-        if stations[station - 1] * stations[station] < 0 {
-            stations[station] = 0;
-        }
-    }
-    let joined = |number: usize| Piece {
-        left: stations[number],
-        right: stations[number + 1],
+    let mirrored = |left: i64, right: i64| Piece {
+        left: sign_of_all * left,
+        right: sign_of_all * right,
     };
+    let last = pieces - 1;
+    let peak = rng.index(pieces + 1);
+    let overhang = rng.index(between_axles) + 1;
+    let shape = rng.pick(&LINE_SHAPES);
+    let joined = joined_ordinates(rng, shape, pieces, most, peak);
     (0..pieces)
         .map(|number| match shape {
-            0..=3 => joined(number),
-            // Gaps and jumps between pieces.
-            4 => {
+            LineShape::OneSigned | LineShape::Triangle | LineShape::Level => {
+                mirrored(joined[number], joined[number + 1])
+            }
+            LineShape::Mixed => Piece {
+                left: joined[number],
+                right: joined[number + 1],
+            },
+            LineShape::Jumps => {
                 let side = sign(rng);
-                let ordinates = [rng.between(0, most), rng.between(0, most)];
                 Piece {
-                    left: side * ordinates[0],
-                    right: side * ordinates[1],
+                    left: side * rng.between(0, most),
+                    right: side * rng.between(0, most),
                 }
             }
-            // Extreme ordinates, and zeros beside them.
-            5 => {
+            LineShape::Extremes => {
                 let side = sign(rng);
                 Piece {
                     left: side * rng.pick(&[0, 5000, 4999]),
                     right: side * rng.pick(&[0, 5000, 4999]),
                 }
             }
-            // A few spikes.
-            6 if rng.one_in(6) => {
+            LineShape::Spikes if rng.one_in(6) => {
                 let height = sign(rng) * most;
                 let (left, right) = rng.pick(&[(height, 0), (0, height), (height, height)]);
                 Piece { left, right }
             }
-            // A jump from one sign to the other, as for a shear force.
-            7 => {
-                let along = |station: i64| most * station / pieces as i64;
-                let number = number as i64;
-                if number < peak {
-                    Piece {
-                        left: mirrored(-along(number)),
-                        right: mirrored(-along(number + 1)),
-                    }
-                } else {
-                    Piece {
-                        left: mirrored(most - along(number)),
-                        right: mirrored(most - along(number + 1)),
-                    }
-                }
+            LineShape::Shear => {
+                let along = |station: usize| most * station as i64 / pieces as i64;
+                let before_jump = number < peak;
+                let at_start = if before_jump { 0 } else { most };
+                mirrored(at_start - along(number), at_start - along(number + 1))
             }
-            // Only the line's ends, so that the pair stands partly off it.
-            8 if number == 0 => Piece {
-                left: mirrored(most),
-                right: 0,
-            },
-            8 if number == last => Piece {
-                left: 0,
-                right: mirrored(most),
-            },
-            // One end only of each piece.
-            9 => {
+            LineShape::EndsOnly if number == 0 => mirrored(most, 0),
+            LineShape::EndsOnly if number == last => mirrored(0, most),
+            LineShape::OneEndOfEach => {
                 let height = rng.between(-most, most);
                 let (left, right) = rng.pick(&[(height, 0), (0, height)]);
                 Piece { left, right }
             }
-            // One sign near an end and the other beyond, so that the far axle
-            // had better stand off the line.
-            10 | 11 => {
-                let from_end = if shape == 10 { number } else { last - number };
+            LineShape::LeftOverhang | LineShape::RightOverhang => {
+                let from_end = match shape {
+                    LineShape::LeftOverhang => number,
+                    _ => last - number,
+                };
                 let side = if from_end < overhang { 1 } else { -1 };
-                Piece {
-                    left: mirrored(side * rng.between(0, most)),
-                    right: mirrored(side * rng.between(0, most)),
-                }
+                mirrored(side * rng.between(0, most), side * rng.between(0, most))
             }
-            // All zero.
-            _ => Piece { left: 0, right: 0 },
+            LineShape::Spikes | LineShape::EndsOnly | LineShape::Zero => mirrored(0, 0),
         })
         .collect()
 }
+
+/// The ordinates at the stations of a joined line; zeros for other shapes.
+fn joined_ordinates(
+    rng: &mut Rng,
+    shape: LineShape,
+    pieces: usize,
+    most: i64,
+    peak: usize,
+) -> Vec<i64> {
+    let mut ordinates: Vec<i64> = (0..=pieces)
+        .map(|station| match shape {
+            LineShape::OneSigned => rng.between(0, most),
+            LineShape::Mixed => rng.between(-most, most),
+            LineShape::Triangle => {
+                let (run, from_end) = if station <= peak {
+                    (peak, station)
+                } else {
+                    (pieces - peak, pieces - station)
+                };
+                most * from_end as i64 / run.max(1) as i64
+            }
+            LineShape::Level => most,
+            _ => 0,
+        })
+        .collect();
+    for station in 1..ordinates.len() {
+        if ordinates[station - 1] * ordinates[station] < 0 {
+            ordinates[station] = 0;
+        }
+    }
+    ordinates
+}
+
+#[derive(Clone, Copy)]
+enum TransverseShape {
+    Level,
+    Slope,
+    /// From 900 down to -900.
+    Falling,
+    AnyOrdinates,
+    /// Each ordinate near the one before.
+    Wandering,
+    /// Each ordinate at a limit.
+    Extremes,
+    Peak,
+    /// Zeros, and some ordinates between them.
+    Sparse,
+}
+
+const TRANSVERSE_SHAPES: [TransverseShape; 8] = [
+    TransverseShape::Level,
+    TransverseShape::Slope,
+    TransverseShape::Falling,
+    TransverseShape::AnyOrdinates,
+    TransverseShape::Wandering,
+    TransverseShape::Extremes,
+    TransverseShape::Peak,
+    TransverseShape::Sparse,
+];
 
 fn sound_transverse(rng: &mut Rng, ordinates: usize) -> Vec<i64> {
     let any = rng.between(-1000, 1000);
     let level = rng.pick(&[1000, -1000, any]);
     let (first, last) = (rng.between(-1000, 1000), rng.between(-1000, 1000));
     let peak = rng.index(ordinates);
-    let shape = rng.below(8);
-    let mut walk = rng.between(-1000, 1000);
+    let shape = rng.pick(&TRANSVERSE_SHAPES);
+    let mut wandering = rng.between(-1000, 1000);
+    let between = |first: i64, last: i64, number: usize| {
+        first + (last - first) * number as i64 / (ordinates as i64 - 1)
+    };
     (0..ordinates)
         .map(|number| match shape {
-            0 => level,
-            1 => first + (last - first) * number as i64 / (ordinates as i64 - 1),
-            2 => 900 - 1800 * number as i64 / (ordinates as i64 - 1),
-            3 => rng.between(-1000, 1000),
-            4 => {
-                walk = (walk + rng.between(-150, 150)).clamp(-1000, 1000);
-                walk
+            TransverseShape::Level => level,
+            TransverseShape::Slope => between(first, last, number),
+            TransverseShape::Falling => between(900, -900, number),
+            TransverseShape::AnyOrdinates => rng.between(-1000, 1000),
+            TransverseShape::Wandering => {
+                wandering = (wandering + rng.between(-150, 150)).clamp(-1000, 1000);
+                wandering
             }
-            5 => rng.pick(&[-1000, 1000]),
-            6 if number == peak => level,
-            6 => 0,
-            _ if rng.one_in(3) => rng.between(-1000, 1000),
-            _ => 0,
+            TransverseShape::Extremes => rng.pick(&[-1000, 1000]),
+            TransverseShape::Peak if number == peak => level,
+            TransverseShape::Sparse if rng.one_in(3) => rng.between(-1000, 1000),
+            TransverseShape::Peak | TransverseShape::Sparse => 0,
         })
         .collect()
 }
