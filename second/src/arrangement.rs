@@ -1,0 +1,247 @@
+//! 01 "Arrangements, for demand 3": arrangements in k-ths, judged and
+//! evaluated in exact fractions. Nothing here asks for the best of anything,
+//! and nothing is taken from the code that does.
+
+use crate::account::{entry_of, side_of, Account, Traffic, UNLOADED};
+use crate::fraction::Fraction;
+use crate::job::{Job, Piece};
+use crate::lanes::{lane_count, EDGE_DISTANCE, MOST_LANES};
+use crate::line::loaded_byte;
+use crate::loads::{
+    dynamic_factor, reduction, Element, Live, Side, AXLE_DISTANCE, OVERLOAD_ELEMENT_TWENTIETHS,
+    UNIFORM_LOAD, X_OVER, X_TIMES,
+};
+use std::ops::Range;
+
+/// A set of lanes with an element of its own for each lane in it.
+#[derive(Debug, Clone, PartialEq, Eq)]
+pub struct Arrangement {
+    /// A whole number from 1 up.
+    pub k: i128,
+    /// Leftmost lane first.
+    pub lanes: [Option<LoadedLane>; MOST_LANES],
+}
+
+/// The element in a loaded lane.
+#[derive(Debug, Clone, PartialEq, Eq)]
+pub struct LoadedLane {
+    pub element: Element,
+    /// The k-ths of pieces under uniform load, counted from the line's left
+    /// end, as ranges in rising order that don't overlap.
+    pub loaded: Vec<Range<i128>>,
+    /// The left axle, in k-ths of a piece from the line's left end.
+    pub left_axle: i128,
+    pub side: Side,
+    /// In k-ths of a cm from the left kerb.
+    pub centre: i128,
+}
+
+impl Arrangement {
+    pub fn empty(k: i128) -> Arrangement {
+        Arrangement {
+            k,
+            lanes: [const { None }; MOST_LANES],
+        }
+    }
+
+    /// The loaded lanes with their elements.
+    pub fn loaded_lanes(&self) -> impl Iterator<Item = (usize, &LoadedLane)> {
+        let lanes = self.lanes.iter().enumerate();
+        lanes.filter_map(|(lane, loaded)| loaded.as_ref().map(|loaded| (lane, loaded)))
+    }
+
+    /// Whether the arrangement keeps 01's rules for this live kind.
+    pub fn lawful(&self, job: &Job, live: Live) -> Result<(), String> {
+        if self.k < 1 {
+            return Err(format!("k is {}", self.k));
+        }
+        for (lane, loaded) in self.loaded_lanes() {
+            let rule_broken = |rule: &str| Err(format!("lane {}: {rule}", lane + 1));
+            if lane >= lane_count(job.width) {
+                return rule_broken("is past the last lane");
+            }
+            let (from, to) = centre_limits_in_cm(job, lane);
+            let centre = Fraction::new(loaded.centre, self.k);
+            if centre.is_below(from) || to.is_below(centre) {
+                return rule_broken("its centre is outside the lane's limits");
+            }
+            let mut free_from = 0;
+            for range in &loaded.loaded {
+                if range.start < free_from || range.end <= range.start {
+                    return rule_broken("its loaded k-ths are out of order");
+                }
+                free_from = range.end;
+            }
+            if free_from > job.pieces.len() as i128 * self.k {
+                return rule_broken("its loaded k-ths run past the line");
+            }
+        }
+        let elements = self.loaded_lanes().map(|(_, loaded)| loaded.element);
+        let overload_elements = elements.filter(|&element| element == Element::Ho).count();
+        match (live, overload_elements) {
+            (Live::Normal, 0) | (Live::Overload, 1) => Ok(()),
+            (Live::Normal, _) => Err("an HO element in normal".into()),
+            (Live::Overload, count) => Err(format!("{count} HO elements in overload")),
+        }
+    }
+
+    /// 3X/800000 in N·U, before it is rounded.
+    pub fn effect(&self, job: &Job) -> Fraction {
+        let mut hn_set = 0_u32;
+        let mut hn_sum = Fraction::ZERO;
+        let mut ho_sum = Fraction::ZERO;
+        for (lane, loaded) in self.loaded_lanes() {
+            let effect = loaded.longitudinal_effect(job, self.k)
+                * transverse_ordinate(job, loaded.centre, self.k);
+            match loaded.element {
+                Element::Hn => {
+                    hn_set |= 1 << lane;
+                    hn_sum = hn_sum + effect;
+                }
+                Element::Ho => ho_sum = ho_sum + effect,
+            }
+        }
+        let in_twentieths = hn_sum * Fraction::whole(reduction(hn_set).into())
+            + ho_sum * Fraction::whole(OVERLOAD_ELEMENT_TWENTIETHS.into());
+        let dynamic = dynamic_factor(job.dynamic_kind, job.dynamic_value);
+        let x = in_twentieths * Fraction::whole(dynamic.into());
+        x * Fraction::new(X_TIMES, X_OVER)
+    }
+}
+
+impl LoadedLane {
+    /// The sum over its loaded k-ths and its two axles, in 75 N·U.
+    pub fn longitudinal_effect(&self, job: &Job, k: i128) -> Fraction {
+        let ranges = self.loaded.iter();
+        // In 75 N·U times k times k.
+        let uniform: i128 = ranges.map(|range| uniform_load_on(job, range, k)).sum();
+        let apart = i128::from(AXLE_DISTANCE / job.piece_length) * k;
+        // In U times k.
+        let under_axles = ordinate_at(job, self.left_axle, self.side, k)
+            + ordinate_at(job, self.left_axle + apart, self.side, k);
+        let axle_load = i128::from(self.element.axle_load());
+        Fraction::new(uniform + axle_load * under_axles * k, k * k)
+    }
+}
+
+/// What loaded k-ths give, times k times k. A k-th gives 7 times h times the
+/// sum of the ordinates at its two ends, over k. Those ends are j and j + 1
+/// k-ths into its piece, where the ordinates times k are a times k plus j, or
+/// j + 1, times b - a; the sum over j from s to below e is therefore 2 times a
+/// times k times e - s, plus b - a times the squares' difference.
+fn uniform_load_on(job: &Job, range: &Range<i128>, k: i128) -> i128 {
+    let weight = i128::from(UNIFORM_LOAD * job.piece_length);
+    let mut sum = 0;
+    let mut from = range.start;
+    while from < range.end {
+        let number = from / k;
+        let piece_end = (number + 1) * k;
+        let to = range.end.min(piece_end);
+        let Piece { left, right } = job.pieces[number as usize];
+        let (s, e) = (from - number * k, to - number * k);
+        let slope = i128::from(right - left);
+        sum += weight * (2 * i128::from(left) * k * (e - s) + slope * (e * e - s * s));
+        from = to;
+    }
+    sum
+}
+
+/// The ordinate, times k, under an axle this many k-ths of a piece from the
+/// line's left end; at a station, the one on its side.
+pub(crate) fn ordinate_at(job: &Job, place: i128, side: Side, k: i128) -> i128 {
+    let (number, beyond) = (place.div_euclid(k), place.rem_euclid(k));
+    // An axle at a station, seen from the left, is at the end of the piece
+    // before it.
+    let (number, beyond) = match side {
+        Side::Left if beyond == 0 => (number - 1, k),
+        _ => (number, beyond),
+    };
+    let piece = usize::try_from(number)
+        .ok()
+        .and_then(|number| job.pieces.get(number));
+    piece.map_or(0, |piece| {
+        i128::from(piece.left) * (k - beyond) + i128::from(piece.right) * beyond
+    })
+}
+
+/// The transverse ordinate, in thousandths, this many k-ths of a cm from the
+/// left kerb.
+pub(crate) fn transverse_ordinate(job: &Job, centre: i128, k: i128) -> Fraction {
+    let spacing = i128::from(job.spacing) * k;
+    let (number, beyond) = ((centre / spacing) as usize, centre % spacing);
+    let ordinate = |number: usize| i128::from(job.transverse[number]);
+    if beyond == 0 {
+        return Fraction::whole(ordinate(number));
+    }
+    let weighed = ordinate(number) * (spacing - beyond) + ordinate(number + 1) * beyond;
+    Fraction::new(weighed, spacing)
+}
+
+/// Lanes are W/n wide, and the centre stays 150 cm from the lane's edges.
+fn centre_limits_in_cm(job: &Job, lane: usize) -> (Fraction, Fraction) {
+    let n = lane_count(job.width) as i128;
+    let edge = |number: usize| Fraction::new(number as i128 * i128::from(job.width), n);
+    let distance = i128::from(EDGE_DISTANCE);
+    (
+        edge(lane) + Fraction::whole(distance),
+        edge(lane + 1) + Fraction::whole(-distance),
+    )
+}
+
+/// "The reported placement of a traffic value is the arrangement with its lane
+/// set, kinds and centres"; k is the lane count, since centres are reported in
+/// n-ths of a cm. `patch` holds the patch byte of each piece.
+pub fn reported_placement(
+    job: &Job,
+    patch: &[u8],
+    account: &Account,
+    traffic: &Traffic,
+) -> Result<Arrangement, String> {
+    let k = lane_count(job.width) as i128;
+    let mut arrangement = Arrangement::empty(k);
+    if traffic.set >> MOST_LANES != 0 {
+        return Err(format!("lane set {:#b} names no lane", traffic.set));
+    }
+    for (lane, reported) in traffic.lanes.iter().enumerate() {
+        let rule_broken = |rule: &str| Err(format!("lane {}: {rule}", lane + 1));
+        let in_set = traffic.set & (1 << lane) != 0;
+        if in_set != (reported.entry != UNLOADED) {
+            return rule_broken("its entry does not agree with the lane set");
+        }
+        if !in_set {
+            if reported.centre != 0 {
+                return rule_broken("it is unloaded but has a centre");
+            }
+            continue;
+        }
+        let Some((element, direction)) = entry_of(reported.entry) else {
+            return rule_broken("its entry's number stands for nothing");
+        };
+        let stand = account.stand(direction);
+        let Some(side) = side_of(stand.side) else {
+            return rule_broken("its side's number stands for nothing");
+        };
+        arrangement.lanes[lane] = Some(LoadedLane {
+            element,
+            loaded: loaded_pieces(patch, loaded_byte(direction), k),
+            left_axle: i128::from(stand.station) * k,
+            side,
+            centre: reported.centre.into(),
+        });
+    }
+    Ok(arrangement)
+}
+
+/// The k-ths of the pieces with this patch byte.
+pub fn loaded_pieces(patch: &[u8], byte: u8, k: i128) -> Vec<Range<i128>> {
+    let pieces = (0..).zip(patch).filter(|&(_, &found)| found == byte);
+    let mut ranges: Vec<Range<i128>> = Vec::new();
+    for (number, _) in pieces {
+        let (from, to) = (number * k, (number + 1) * k);
+        match ranges.last_mut() {
+            Some(last) if last.end == from => last.end = to,
+            _ => ranges.push(from..to),
+        }
+    }
+    ranges
+}

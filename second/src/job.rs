@@ -1,0 +1,173 @@
+//! 01 "The job's words": a job decoded into its fields, and encoded again.
+
+use crate::sections::{self, Sections};
+use crate::words;
+
+/// One piece of the longitudinal influence line, with its ordinates in U.
+#[derive(Debug, Clone, Copy, PartialEq, Eq)]
+pub struct Piece {
+    pub left: i64,
+    pub right: i64,
+}
+
+/// A finished effect in kN·U.
+#[derive(Debug, Clone, Copy, PartialEq, Eq)]
+pub struct Effect {
+    pub value: i64,
+    /// 1 always present, 2 may be left out.
+    pub mark: i64,
+}
+
+pub const ALWAYS_PRESENT: i64 = 1;
+pub const MAY_BE_LEFT_OUT: i64 = 2;
+
+/// A row of the table of load factors: one load combination.
+#[derive(Debug, Clone, Copy, PartialEq, Eq)]
+pub struct Row {
+    /// 1 service, 2 ultimate.
+    pub state: i64,
+    /// 0 none, 1 normal, 2 overload.
+    pub live_kind: i64,
+    /// Thousandths.
+    pub live_factor: i64,
+    /// First record of its chain, counted from 1; 0 for an empty chain.
+    pub first: usize,
+}
+
+pub const SERVICE: i64 = 1;
+pub const ULTIMATE: i64 = 2;
+
+pub const LIVE_NONE: i64 = 0;
+pub const LIVE_NORMAL: i64 = 1;
+pub const LIVE_OVERLOAD: i64 = 2;
+
+/// A chain record.
+#[derive(Debug, Clone, Copy, PartialEq, Eq)]
+pub struct Record {
+    /// Effect, counted from 1.
+    pub effect: usize,
+    /// Thousandths.
+    pub factor: i64,
+    /// Next record, counted from 1; 0 ends the chain.
+    pub next: usize,
+}
+
+/// A job whose words are within their limits.
+#[derive(Debug, Clone, PartialEq, Eq)]
+pub struct Job {
+    /// h, in decimetres.
+    pub piece_length: i64,
+    /// g, in cm.
+    pub spacing: i64,
+    /// W, in cm.
+    pub width: i64,
+    pub dynamic_kind: i64,
+    pub dynamic_value: i64,
+    pub pieces: Vec<Piece>,
+    /// Transverse ordinates in thousandths, the first at the left kerb.
+    pub transverse: Vec<i64>,
+    pub effects: Vec<Effect>,
+    pub rows: Vec<Row>,
+    pub records: Vec<Record>,
+}
+
+impl Job {
+    /// Decodes words that are free of refusals 1 to 6.
+    pub fn decode(words: &[i32]) -> Job {
+        let sections = Sections::called_for_by(words);
+        let word = |place: usize| i64::from(words[place]);
+        let number = |word: i32| i64::from(word);
+        Job {
+            piece_length: word(sections::PIECE_LENGTH),
+            spacing: word(sections::SPACING),
+            width: word(sections::WIDTH),
+            dynamic_kind: word(sections::DYNAMIC_KIND),
+            dynamic_value: word(sections::DYNAMIC_VALUE),
+            pieces: words[sections.line]
+                .chunks_exact(sections::WORDS_PER_PIECE)
+                .map(|piece| Piece {
+                    left: number(piece[0]),
+                    right: number(piece[1]),
+                })
+                .collect(),
+            transverse: words[sections.transverse]
+                .iter()
+                .map(|&word| number(word))
+                .collect(),
+            effects: words[sections.effects]
+                .chunks_exact(sections::WORDS_PER_EFFECT)
+                .map(|effect| Effect {
+                    value: number(effect[0]),
+                    mark: number(effect[1]),
+                })
+                .collect(),
+            rows: words[sections.rows]
+                .chunks_exact(sections::WORDS_PER_ROW)
+                .map(|row| Row {
+                    state: number(row[0]),
+                    live_kind: number(row[1]),
+                    live_factor: number(row[2]),
+                    first: row[3] as usize,
+                })
+                .collect(),
+            records: words[sections.records]
+                .chunks_exact(sections::WORDS_PER_RECORD)
+                .map(|record| Record {
+                    effect: record[0] as usize,
+                    factor: number(record[1]),
+                    next: record[2] as usize,
+                })
+                .collect(),
+        }
+    }
+
+    /// The job's words; the counts in the header are those of the fields.
+    pub fn words(&self) -> Vec<i32> {
+        let mut words: Vec<i64> = vec![
+            1,
+            self.piece_length,
+            self.pieces.len() as i64,
+            self.spacing,
+            self.width,
+            self.dynamic_kind,
+            self.dynamic_value,
+            self.effects.len() as i64,
+            self.rows.len() as i64,
+            self.records.len() as i64,
+        ];
+        for piece in &self.pieces {
+            words.extend([piece.left, piece.right]);
+        }
+        words.extend(&self.transverse);
+        for effect in &self.effects {
+            words.extend([effect.value, effect.mark]);
+        }
+        for row in &self.rows {
+            words.extend([row.state, row.live_kind, row.live_factor, row.first as i64]);
+        }
+        for record in &self.records {
+            words.extend([record.effect as i64, record.factor, record.next as i64]);
+        }
+        words
+            .into_iter()
+            .map(|word| i32::try_from(word).expect("a job's field fits a word"))
+            .collect()
+    }
+
+    /// The job's bytes.
+    pub fn bytes(&self) -> Vec<u8> {
+        words::bytes_of(&self.words())
+    }
+
+    /// The records of a row's chain, first to last, of a chain without a return.
+    pub fn chain(&self, row: &Row) -> Vec<Record> {
+        let mut chain = Vec::new();
+        let mut number = row.first;
+        while number != 0 {
+            let record = self.records[number - 1];
+            chain.push(record);
+            number = record.next;
+        }
+        chain
+    }
+}

@@ -1,0 +1,119 @@
+//! 01 "The host and the program": reads a job from standard input and prints
+//! its four lines, or `refused NUMBER at PLACE`. Further commands are in USAGE.
+
+use second::job::Job;
+use second::{generator, job_a, report, sampler, solve, words};
+use std::fs;
+use std::io::{self, Read, Write};
+use std::path::Path;
+use std::process::ExitCode;
+
+const USAGE: &str = "usage:
+  second < JOB                     print the job's four lines, or its refusal
+  second account < JOB             print them with the placements and omissions
+  second beat SEED TRIES < JOB     try to beat the job's account by random draws
+  second job-a                     write Job A's bytes to standard output
+  second generate SEED COUNT DIR   write COUNT cases from SEED on into DIR,
+                                   as SEED.job and SEED.patch
+";
+
+/// The most bytes of standard input that are read.
+const MOST_INPUT_BYTES: u64 = 16384;
+
+/// The patch buffer the program lends: a byte for each of the most pieces.
+const PATCH_BYTES: usize = 1000;
+
+enum Failure {
+    Usage,
+    Other(String),
+}
+
+fn main() -> ExitCode {
+    let arguments: Vec<String> = std::env::args_os()
+        .skip(1)
+        .map(|argument| argument.to_string_lossy().into_owned())
+        .collect();
+    let arguments: Vec<&str> = arguments.iter().map(String::as_str).collect();
+    match run(&arguments) {
+        Ok(()) => ExitCode::SUCCESS,
+        Err(Failure::Usage) => {
+            eprint!("{USAGE}");
+            ExitCode::from(2)
+        }
+        Err(Failure::Other(message)) => {
+            eprintln!("second: {message}");
+            ExitCode::FAILURE
+        }
+    }
+}
+
+fn run(arguments: &[&str]) -> Result<(), Failure> {
+    match arguments {
+        [] => {
+            let answer = solve(&read_job()?, &mut [0; PATCH_BYTES]);
+            write_out(report::report(&answer).as_bytes())
+        }
+        ["account"] => {
+            let answer = solve(&read_job()?, &mut [0; PATCH_BYTES]);
+            write_out(report::full_report(&answer).as_bytes())
+        }
+        ["beat", seed, tries] => {
+            let tries = u32::try_from(number(tries)?).map_err(|_| Failure::Usage)?;
+            beat(number(seed)?, tries)
+        }
+        ["job-a"] => write_out(&job_a::job_a().bytes()),
+        ["generate", seed, count, directory] => {
+            generate(number(seed)?, number(count)?, Path::new(directory))
+        }
+        _ => Err(Failure::Usage),
+    }
+}
+
+fn number(argument: &str) -> Result<u64, Failure> {
+    argument.parse().map_err(|_| Failure::Usage)
+}
+
+fn beat(seed: u64, tries: u32) -> Result<(), Failure> {
+    let job = read_job()?;
+    let answer = solve(&job, &mut [0; PATCH_BYTES]);
+    if answer.refusal != 0 {
+        return write_out(report::report(&answer).as_bytes());
+    }
+    let job = Job::decode(&words::words_of(&job));
+    match sampler::first_beating(&job, &answer.account, seed, tries) {
+        None => write_out(format!("not beaten in {tries} tries\n").as_bytes()),
+        Some(beating) => Err(Failure::Other(format!("beaten by {beating:#?}"))),
+    }
+}
+
+fn generate(first: u64, count: u64, directory: &Path) -> Result<(), Failure> {
+    let past_last = first.checked_add(count).ok_or(Failure::Usage)?;
+    for seed in first..past_last {
+        let case = generator::case(seed);
+        for (ending, bytes) in [("job", &case.job), ("patch", &case.patch)] {
+            let path = directory.join(format!("{seed}.{ending}"));
+            fs::write(&path, bytes).map_err(|error| {
+                Failure::Other(format!("cannot write {}: {error}", path.display()))
+            })?;
+        }
+    }
+    Ok(())
+}
+
+fn read_job() -> Result<Vec<u8>, Failure> {
+    let mut job = Vec::new();
+    io::stdin()
+        .lock()
+        .take(MOST_INPUT_BYTES)
+        .read_to_end(&mut job)
+        .map_err(|error| Failure::Other(format!("cannot read standard input: {error}")))?;
+    Ok(job)
+}
+
+fn write_out(bytes: &[u8]) -> Result<(), Failure> {
+    let mut output = io::stdout().lock();
+    output
+        .write_all(bytes)
+        .and_then(|()| output.flush())
+        .map_err(|error| Failure::Other(format!("cannot write standard output: {error}")))
+}

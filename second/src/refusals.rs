@@ -1,0 +1,196 @@
+//! 01 "What the yard hears back": the nine refusals, tested in rising number,
+//! each at its lowest place.
+
+use crate::sections::{
+    self, Sections, HEADER_WORDS, WORDS_PER_EFFECT, WORDS_PER_PIECE, WORDS_PER_RECORD,
+    WORDS_PER_ROW,
+};
+use crate::words::{self, WORD_BYTES};
+
+/// A refusal's number and word place.
+#[derive(Debug, Clone, Copy, PartialEq, Eq)]
+pub struct Refusal {
+    pub number: u64,
+    pub place: u64,
+}
+
+/// The refusal 01 names for these bytes and a patch buffer of this length.
+pub fn refusal(job: &[u8], patch_bytes: usize) -> Option<Refusal> {
+    match first_place(job, patch_bytes) {
+        Ok(()) => None,
+        Err((number, place)) => Some(Refusal {
+            number,
+            place: place as u64,
+        }),
+    }
+}
+
+fn first_place(job: &[u8], patch_bytes: usize) -> Result<(), (u64, usize)> {
+    let words = words::words_of(job);
+    let words = words.as_slice();
+    test(1, not_a_job(job, words))?;
+    test(2, header_word_outside(words))?;
+    let sections = Sections::called_for_by(words);
+    test(3, wrong_word_count(words, &sections))?;
+    test(4, ordinate_outside(words, &sections))?;
+    test(5, piece_of_two_signs(words, &sections))?;
+    test(6, factor_word_outside(words, &sections))?;
+    test(7, chain_with_return(words, &sections))?;
+    test(8, chain_naming_twice(words, &sections))?;
+    test(9, short_patch_buffer(words, patch_bytes))
+}
+
+fn test(number: u64, place: Option<usize>) -> Result<(), (u64, usize)> {
+    match place {
+        None => Ok(()),
+        Some(place) => Err((number, place)),
+    }
+}
+
+/// 1: under 10 words, a byte count not divisible by 4, or word 0 not 1.
+fn not_a_job(job: &[u8], words: &[i32]) -> Option<usize> {
+    let is_job = job.len() >= HEADER_WORDS * WORD_BYTES
+        && job.len().is_multiple_of(WORD_BYTES)
+        && words[sections::EDITION] == 1;
+    (!is_job).then_some(0)
+}
+
+/// 2: a word among 1 to 9 outside its limits.
+fn header_word_outside(words: &[i32]) -> Option<usize> {
+    (1..HEADER_WORDS).find(|&place| !header_word_lawful(words, place))
+}
+
+/// The limits of a header word; those that rest on an earlier word take it as
+/// lawful, since an unlawful one is the lower place.
+fn header_word_lawful(words: &[i32], place: usize) -> bool {
+    let word = words[place];
+    match place {
+        sections::PIECE_LENGTH => [1, 2, 5, 10, 25, 50].contains(&word),
+        sections::PIECES => {
+            let line_length = i64::from(word) * i64::from(words[sections::PIECE_LENGTH]);
+            (1..=1000).contains(&word) && line_length <= 1000
+        }
+        sections::SPACING => (10..=50).contains(&word),
+        sections::WIDTH => (300..=2079).contains(&word),
+        sections::DYNAMIC_KIND => (1..=3).contains(&word),
+        sections::DYNAMIC_VALUE => match words[sections::DYNAMIC_KIND] {
+            1 => (1000..=1300).contains(&word),
+            2 => word == 0,
+            _ => (0..=5000).contains(&word),
+        },
+        sections::EFFECTS => (0..=16).contains(&word),
+        sections::ROWS => (1..=32).contains(&word),
+        sections::RECORDS => (0..=512).contains(&word),
+        _ => true,
+    }
+}
+
+/// 3: the word count isn't exactly what the header calls for.
+fn wrong_word_count(words: &[i32], sections: &Sections) -> Option<usize> {
+    let due = sections.words_due();
+    (words.len() != due).then_some(due)
+}
+
+/// 4: an ordinate of either line outside its limits.
+fn ordinate_outside(words: &[i32], sections: &Sections) -> Option<usize> {
+    let lawful_in_line = |&place: &usize| (-5000..=5000).contains(&words[place]);
+    let lawful_across = |&place: &usize| (-1000..=1000).contains(&words[place]);
+    let in_line = sections.line.clone().find(|place| !lawful_in_line(place));
+    in_line.or_else(|| {
+        sections
+            .transverse
+            .clone()
+            .find(|place| !lawful_across(place))
+    })
+}
+
+/// 5: a piece with one ordinate above 0 and one below.
+fn piece_of_two_signs(words: &[i32], sections: &Sections) -> Option<usize> {
+    sections.line.clone().step_by(WORDS_PER_PIECE).find(|&at| {
+        let (left, right) = (words[at], words[at + 1]);
+        left.min(right) < 0 && left.max(right) > 0
+    })
+}
+
+/// 6: an effect, row or record word outside its limits.
+fn factor_word_outside(words: &[i32], sections: &Sections) -> Option<usize> {
+    (sections.effects.start..sections.records.end)
+        .find(|&place| !factor_word_lawful(words, sections, place))
+}
+
+fn factor_word_lawful(words: &[i32], sections: &Sections, place: usize) -> bool {
+    let word = words[place];
+    let effects = words[sections::EFFECTS];
+    let records = words[sections::RECORDS];
+    if sections.effects.contains(&place) {
+        match (place - sections.effects.start) % WORDS_PER_EFFECT {
+            0 => (-1_000_000_000..=1_000_000_000).contains(&word),
+            _ => word == 1 || word == 2,
+        }
+    } else if sections.rows.contains(&place) {
+        match (place - sections.rows.start) % WORDS_PER_ROW {
+            0 => word == 1 || word == 2,
+            1 => (0..=2).contains(&word),
+            2 if words[place - 1] == 0 => word == 0,
+            2 => (0..=3000).contains(&word),
+            _ => (0..=records).contains(&word),
+        }
+    } else {
+        match (place - sections.records.start) % WORDS_PER_RECORD {
+            0 => (1..=effects).contains(&word),
+            1 => (0..=3000).contains(&word),
+            _ => (0..=records).contains(&word),
+        }
+    }
+}
+
+/// What following a chain from its first record comes to.
+struct Walk {
+    returns: bool,
+    /// The effects named, in order, up to the end or the return.
+    effects: Vec<i32>,
+}
+
+fn walk(words: &[i32], sections: &Sections, row_at: usize) -> Walk {
+    let mut visited = vec![false; words[sections::RECORDS] as usize + 1];
+    let mut effects = Vec::new();
+    let mut number = words[row_at + 3] as usize;
+    while number != 0 {
+        if visited[number] {
+            return Walk {
+                returns: true,
+                effects,
+            };
+        }
+        visited[number] = true;
+        let record_at = sections.records.start + WORDS_PER_RECORD * (number - 1);
+        effects.push(words[record_at]);
+        number = words[record_at + 2] as usize;
+    }
+    Walk {
+        returns: false,
+        effects,
+    }
+}
+
+/// 7: a chain comes back to a record; its row's first word.
+fn chain_with_return(words: &[i32], sections: &Sections) -> Option<usize> {
+    let mut rows = sections.rows.clone().step_by(WORDS_PER_ROW);
+    rows.find(|&row_at| walk(words, sections, row_at).returns)
+}
+
+/// 8: a chain without a return names an effect twice; its row's first word.
+fn chain_naming_twice(words: &[i32], sections: &Sections) -> Option<usize> {
+    let mut rows = sections.rows.clone().step_by(WORDS_PER_ROW);
+    rows.find(|&row_at| {
+        let walk = walk(words, sections, row_at);
+        let named_before = |(at, effect): (usize, &i32)| walk.effects[..at].contains(effect);
+        !walk.returns && walk.effects.iter().enumerate().any(named_before)
+    })
+}
+
+/// 9: the patch buffer has fewer than N bytes; place N.
+fn short_patch_buffer(words: &[i32], patch_bytes: usize) -> Option<usize> {
+    let pieces = words[sections::PIECES] as usize;
+    (patch_bytes < pieces).then_some(pieces)
+}

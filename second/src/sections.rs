@@ -1,0 +1,61 @@
+//! 01 "The job's words": where each section of a job lies, in word places.
+
+use std::ops::Range;
+
+/// Words 0 to 9.
+pub const HEADER_WORDS: usize = 10;
+
+/// Places of the header's words.
+pub const EDITION: usize = 0;
+pub const PIECE_LENGTH: usize = 1;
+pub const PIECES: usize = 2;
+pub const SPACING: usize = 3;
+pub const WIDTH: usize = 4;
+pub const DYNAMIC_KIND: usize = 5;
+pub const DYNAMIC_VALUE: usize = 6;
+pub const EFFECTS: usize = 7;
+pub const ROWS: usize = 8;
+pub const RECORDS: usize = 9;
+
+pub const WORDS_PER_PIECE: usize = 2;
+pub const WORDS_PER_EFFECT: usize = 2;
+pub const WORDS_PER_ROW: usize = 4;
+pub const WORDS_PER_RECORD: usize = 3;
+
+/// The sections that follow the header, as ranges of word places.
+#[derive(Debug, Clone, PartialEq, Eq)]
+pub struct Sections {
+    pub line: Range<usize>,
+    pub transverse: Range<usize>,
+    pub effects: Range<usize>,
+    pub rows: Range<usize>,
+    pub records: Range<usize>,
+}
+
+impl Sections {
+    /// The sections a lawful header calls for.
+    pub fn called_for_by(header: &[i32]) -> Sections {
+        let count = |place: usize| header[place] as usize;
+        let line = HEADER_WORDS..HEADER_WORDS + WORDS_PER_PIECE * count(PIECES);
+        let transverse = following(&line, count(WIDTH).div_ceil(count(SPACING)) + 1);
+        let effects = following(&transverse, WORDS_PER_EFFECT * count(EFFECTS));
+        let rows = following(&effects, WORDS_PER_ROW * count(ROWS));
+        let records = following(&rows, WORDS_PER_RECORD * count(RECORDS));
+        Sections {
+            line,
+            transverse,
+            effects,
+            rows,
+            records,
+        }
+    }
+
+    /// The count of words due, header included.
+    pub fn words_due(&self) -> usize {
+        self.records.end
+    }
+}
+
+fn following(section: &Range<usize>, words: usize) -> Range<usize> {
+    section.end..section.end + words
+}

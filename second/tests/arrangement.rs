@@ -1,0 +1,209 @@
+//! 01 "Arrangements, for demand 3": hand-worked arrangements, and the rules.
+
+#![allow(clippy::single_range_in_vec_init)] // One loaded range is meant.
+
+mod common;
+
+use common::{level_job, two_lane_job};
+use second::arrangement::{Arrangement, LoadedLane};
+use second::fraction::Fraction;
+use second::job::Job;
+use second::loads::{Element, Live, Question, Side};
+
+fn lane(element: Element, left_axle: i128, side: Side, centre: i128) -> LoadedLane {
+    LoadedLane {
+        element,
+        loaded: vec![],
+        left_axle,
+        side,
+        centre,
+    }
+}
+
+fn arrangement(k: i128, lanes: &[(usize, LoadedLane)]) -> Arrangement {
+    let mut arrangement = Arrangement::empty(k);
+    for (number, loaded) in lanes {
+        arrangement.lanes[*number] = Some(loaded.clone());
+    }
+    arrangement
+}
+
+/// Each k-th by itself, as 01 writes it.
+fn uniform_load_by_k_ths(job: &Job, loaded: &[std::ops::Range<i128>], k: i128) -> Fraction {
+    let mut sum = Fraction::ZERO;
+    for k_th in loaded.iter().flat_map(|range| range.clone()) {
+        let piece = job.pieces[(k_th / k) as usize];
+        let ordinate_at = |j: i128| {
+            Fraction::whole(piece.left.into())
+                + Fraction::new(i128::from(piece.right - piece.left) * j, k)
+        };
+        let ends = ordinate_at(k_th % k) + ordinate_at(k_th % k + 1);
+        sum = sum + ends * Fraction::new(7 * i128::from(job.piece_length), k);
+    }
+    sum
+}
+
+#[test]
+fn loaded_k_ths_sum_as_01_writes_them() {
+    let job = two_lane_job();
+    for k in [1, 2, 3, 7, 10] {
+        let whole = 4 * k;
+        for loaded in [
+            vec![0..whole],
+            vec![0..1],
+            vec![whole - 1..whole],
+            vec![0..1, 1..2 * k, 3 * k..whole],
+            (0..whole).step_by(2).map(|at| at..at + 1).collect(),
+        ] {
+            let by_k_ths = uniform_load_by_k_ths(&job, &loaded, k);
+            let mut element = lane(Element::Hn, 100 * k, Side::Left, 0);
+            element.loaded = loaded;
+            assert_eq!(element.longitudinal_effect(&job, k), by_k_ths, "k {k}");
+        }
+    }
+}
+
+/// The line is 0, 100, 0, -60, 0 at its stations, the axles 2 pieces apart. In
+/// thirds, a left axle at 1 has 100/3, its right one at 7 has -60/3: 40/3.
+#[test]
+fn axles_between_stations_count_the_lines_ordinate() {
+    let job = two_lane_job();
+    let effect = |element, left_axle, k| {
+        lane(element, left_axle, Side::Left, 0).longitudinal_effect(&job, k)
+    };
+    assert_eq!(effect(Element::Hn, 1, 3), Fraction::new(1600 * 40, 3));
+    assert_eq!(effect(Element::Ho, 1, 3), Fraction::new(3200 * 40, 3));
+    // The left axle is off the line, the right one at 2 thirds: 200/3.
+    assert_eq!(effect(Element::Hn, -4, 3), Fraction::new(1600 * 200, 3));
+    // The right axle is off the line, the left one at 10 thirds: -60 * 2/3.
+    assert_eq!(effect(Element::Hn, 10, 3), Fraction::whole(-1600 * 40));
+    assert_eq!(effect(Element::Hn, 3000, 3), Fraction::ZERO);
+    assert_eq!(effect(Element::Hn, -3000, 3), Fraction::ZERO);
+}
+
+/// One piece of 8 and 8 with jumps at its ends; the axles are 1 piece apart.
+#[test]
+fn an_axle_at_a_station_counts_its_side() {
+    let job = level_job(300, 50, vec![0; 7]);
+    let pairs = |left_axle, side| lane(Element::Hn, left_axle, side, 0);
+    let table = [
+        (-1, Side::Left, 0),
+        (-1, Side::Right, 8),
+        (0, Side::Left, 8),
+        (0, Side::Right, 8),
+        (1, Side::Left, 8),
+        (1, Side::Right, 0),
+    ];
+    for (station, side, ordinates) in table {
+        for k in [1, 2, 5] {
+            let found = pairs(station * k, side).longitudinal_effect(&job, k);
+            assert_eq!(
+                found,
+                Fraction::whole(1600 * ordinates),
+                "{station} {side:?}"
+            );
+        }
+    }
+}
+
+/// One lane, HN on the whole piece, pair at station 0: 18400. The centre can
+/// only be 150 cm, on ordinate 3. 18400 * 7 * 20 * 1000 * 3 / 800000 = 9660;
+/// with one k-th of two taken away, 2800 less: 15600 * 7 * 20 * 3 / 800 = 8190.
+#[test]
+fn an_arrangements_effect() {
+    let job = level_job(300, 50, vec![0, 0, 0, 7, 0, 0, 0]);
+    let mut element = lane(Element::Hn, 0, Side::Right, 300);
+    element.loaded = vec![0..2];
+    let whole = arrangement(2, &[(0, element.clone())]);
+    assert_eq!(whole.lawful(&job, Live::Normal), Ok(()));
+    assert_eq!(whole.effect(&job), Fraction::whole(9660));
+    element.loaded = vec![1..2];
+    let half = arrangement(2, &[(0, element)]);
+    assert_eq!(half.effect(&job), Fraction::whole(8190));
+    let empty = Arrangement::empty(4);
+    assert_eq!(empty.lawful(&job, Live::Normal), Ok(()));
+    assert_eq!(empty.effect(&job), Fraction::ZERO);
+}
+
+/// W 600, ordinates 1000 and 500 at the only centres. Two HN axles of 8:
+/// 12800 each. Normal: 18 * 12800 * 1500 * 1000 * 3 / 800000 = 1296000.
+/// Overload with HO in lane 2: 20 * (25600 * 500 + 12800 * 1000) = 512000000,
+/// times 1000 * 3 / 800000 = 1920000.
+#[test]
+fn r_is_chosen_by_the_hn_lanes() {
+    let mut transverse = vec![0; 13];
+    (transverse[3], transverse[9]) = (1000, 500);
+    let job = level_job(600, 50, transverse);
+    let standing = |element, centre| lane(element, 0, Side::Left, centre);
+    let hn = standing(Element::Hn, 150);
+    let normal = arrangement(1, &[(0, hn.clone()), (1, standing(Element::Hn, 450))]);
+    assert_eq!(normal.lawful(&job, Live::Normal), Ok(()));
+    assert_eq!(normal.effect(&job), Fraction::whole(1_296_000));
+    let overload = arrangement(1, &[(0, hn), (1, standing(Element::Ho, 450))]);
+    assert_eq!(overload.lawful(&job, Live::Overload), Ok(()));
+    assert_eq!(overload.effect(&job), Fraction::whole(1_920_000));
+}
+
+#[test]
+fn unlawful_arrangements_are_told() {
+    // Two lanes with centres from 150 to 210 and 510 to 570 cm; 4 pieces.
+    let job = two_lane_job();
+    let hn = |centre| lane(Element::Hn, 0, Side::Left, centre);
+    let ho = |centre| lane(Element::Ho, 0, Side::Left, centre);
+    let loading = |ranges: &[std::ops::Range<i128>]| LoadedLane {
+        loaded: ranges.to_vec(),
+        ..hn(450)
+    };
+    let lawful = |live, k, lanes: &[(usize, LoadedLane)]| arrangement(k, lanes).lawful(&job, live);
+    use Live::{Normal, Overload};
+    for centre in [450, 630] {
+        assert_eq!(lawful(Normal, 3, &[(0, hn(centre))]), Ok(()));
+        assert_eq!(lawful(Normal, 3, &[(1, hn(centre + 1080))]), Ok(()));
+    }
+    assert_eq!(lawful(Normal, 3, &[(0, loading(&[0..5, 5..12]))]), Ok(()));
+    assert_eq!(lawful(Overload, 3, &[(0, ho(450)), (1, hn(1530))]), Ok(()));
+    let unlawful = [
+        lawful(Normal, 0, &[]),
+        lawful(Normal, -1, &[]),
+        lawful(Normal, 3, &[(0, hn(449))]),
+        lawful(Normal, 3, &[(0, hn(631))]),
+        lawful(Normal, 3, &[(1, hn(1529))]),
+        lawful(Normal, 3, &[(1, hn(1711))]),
+        lawful(Normal, 3, &[(2, hn(1800))]),
+        lawful(Normal, 3, &[(0, ho(450))]),
+        lawful(Overload, 3, &[]),
+        lawful(Overload, 3, &[(0, hn(450))]),
+        lawful(Overload, 3, &[(0, ho(450)), (1, ho(1530))]),
+        lawful(Normal, 3, &[(0, loading(&[-1..2]))]),
+        lawful(Normal, 3, &[(0, loading(&[0..13]))]),
+        lawful(Normal, 3, &[(0, loading(&[0..2, 1..3]))]),
+        lawful(Normal, 3, &[(0, loading(&[3..4, 1..2]))]),
+        lawful(Normal, 3, &[(0, loading(&[2..2]))]),
+    ];
+    for (number, found) in unlawful.iter().enumerate() {
+        assert!(found.is_err(), "number {number}");
+    }
+}
+
+#[test]
+fn fractions_are_exact_and_round_by_question() {
+    let third = Fraction::new(1, 3);
+    assert_eq!(third + third + third, Fraction::whole(1));
+    assert_eq!(Fraction::new(6, 4), Fraction::new(3, 2));
+    assert_eq!(
+        Fraction::new(2, 3) * Fraction::new(3, 4),
+        Fraction::new(1, 2)
+    );
+    let table = [
+        (7, 2, 4, 3),
+        (-7, 2, -3, -4),
+        (6, 2, 3, 3),
+        (-6, 2, -3, -3),
+        (0, 5, 0, 0),
+    ];
+    for (numerator, denominator, up, down) in table {
+        let fraction = Fraction::new(numerator, denominator);
+        assert_eq!(fraction.round(Question::Greatest), up);
+        assert_eq!(fraction.round(Question::Least), down);
+    }
+}

@@ -1,0 +1,560 @@
+//! The checker takes every right answer, whichever of the equally good
+//! placements and omissions it reports, and no other.
+
+mod common;
+
+use common::{level_job, pieces, two_lane_job};
+use second::account::{Lane, State};
+use second::checker::check;
+use second::generator::case;
+use second::job::Job;
+use second::job_a::job_a;
+use second::{solve, Answer};
+
+/// What a kernel gave for a job, with the patch buffer before and after.
+#[derive(Clone)]
+struct Call {
+    job: Vec<u8>,
+    before: Vec<u8>,
+    after: Vec<u8>,
+    answer: Answer,
+}
+
+impl Call {
+    fn new(job: &[u8], before: &[u8]) -> Call {
+        let mut after = before.to_vec();
+        let answer = solve(job, &mut after);
+        Call {
+            job: job.to_vec(),
+            before: before.to_vec(),
+            after,
+            answer,
+        }
+    }
+
+    fn of(job: &Job) -> Call {
+        Call::new(&job.bytes(), &vec![0xC3; job.pieces.len() + 2])
+    }
+
+    fn check(&self) -> Result<(), String> {
+        check(&self.job, &self.before, &self.after, &self.answer)
+    }
+
+    /// The same call with something changed.
+    fn with(&self, change: impl Fn(&mut Call)) -> Call {
+        let mut changed = self.clone();
+        change(&mut changed);
+        changed
+    }
+}
+
+type Change = fn(&mut Call);
+
+#[track_caller]
+fn takes(call: &Call, changes: &[(&str, Change)]) {
+    assert_eq!(call.check(), Ok(()));
+    for (what, change) in changes {
+        assert_eq!(call.with(change).check(), Ok(()), "{what}");
+    }
+}
+
+/// Each change is refused for a reason that has these words in it.
+#[track_caller]
+fn refuses(call: &Call, changes: &[(&str, Change)]) {
+    assert_eq!(call.check(), Ok(()));
+    for (number, (reason, change)) in changes.iter().enumerate() {
+        let fault = call.with(change).check();
+        let fault = fault.expect_err(&format!("change {number}, {reason}"));
+        assert!(fault.contains(reason), "change {number}: {fault}");
+    }
+}
+
+#[test]
+fn right_answers_to_generated_cases_pass() {
+    for seed in 0..2000 {
+        let case = case(seed);
+        let call = Call::new(&case.job, &case.patch);
+        assert_eq!(call.check(), Ok(()), "seed {seed}");
+    }
+}
+
+#[test]
+fn a_wrong_refusal_is_refused() {
+    let mut words = job_a().words();
+    words[4] = 299;
+    let call = Call::new(&second::words::bytes_of(&words), &[1, 2, 3]);
+    assert_eq!((call.answer.refusal, call.answer.place), (2, 4));
+    refuses(
+        &call,
+        &[
+            ("refusal is 0, 2 is due", |call| {
+                call.answer = Answer::default()
+            }),
+            ("refusal is 3", |call| call.answer.refusal = 3),
+            ("refusal is 1", |call| call.answer.refusal = 1),
+            ("place is 0", |call| call.answer.place = 0),
+            ("place is 5", |call| call.answer.place = 5),
+            ("not zero", |call| call.answer.account.raising.station = 1),
+            ("not zero", |call| call.answer.account.lowering.side = 1),
+            ("not zero", |call| {
+                call.answer.account.normal_greatest.value = 1
+            }),
+            ("not zero", |call| {
+                call.answer.account.overload_least.lanes[4].centre = 1
+            }),
+            ("not zero", |call| call.answer.account.ultimate.present = 1),
+            ("not zero", |call| call.answer.account.service.least.row = 1),
+            ("has changed", |call| call.after[0] = 0),
+            ("has changed", |call| call.after[2] = 0),
+            ("has changed", |call| {
+                call.after.pop();
+            }),
+        ],
+    );
+}
+
+#[test]
+fn a_sound_job_refused_is_refused() {
+    refuses(
+        &Call::of(&two_lane_job()),
+        &[
+            ("refusal is 1, 0 is due", |call| {
+                call.answer = Answer {
+                    refusal: 1,
+                    ..Answer::default()
+                };
+                call.after = call.before.clone();
+            }),
+            ("place is 1", |call| call.answer.place = 1),
+        ],
+    );
+}
+
+#[test]
+fn wrong_patch_bytes_are_refused() {
+    // Patch bytes 1, 1, 2, 2 and two past them.
+    refuses(
+        &Call::of(&two_lane_job()),
+        &[
+            ("patch byte 0 is 0, 1 is due", |call| call.after[0] = 0),
+            ("patch byte 3 is 1, 2 is due", |call| call.after[3] = 1),
+            ("patch byte 2 is 195", |call| call.after[2] = call.before[2]),
+            ("byte 4, past the patch", |call| call.after[4] = 0),
+            ("byte 5, past the patch", |call| call.after[5] = 0),
+            ("length", |call| {
+                call.after.pop();
+            }),
+            ("patch byte 0", |call| call.after = call.before.clone()),
+        ],
+    );
+}
+
+#[test]
+fn wrong_values_are_refused() {
+    refuses(
+        &Call::of(&two_lane_job()),
+        &[
+            ("Normal Greatest is 10319399", |call| {
+                call.answer.account.normal_greatest.value -= 1
+            }),
+            ("Normal Greatest is 10319401", |call| {
+                call.answer.account.normal_greatest.value += 1
+            }),
+            ("Normal Least is", |call| {
+                call.answer.account.normal_least.value += 1
+            }),
+            ("Overload Greatest is", |call| {
+                call.answer.account.overload_greatest.value -= 1
+            }),
+            ("Overload Least is", |call| {
+                call.answer.account.overload_least.value = 0
+            }),
+            ("service Greatest is", |call| {
+                call.answer.account.service.greatest.value -= 1000
+            }),
+            ("service Least is", |call| {
+                call.answer.account.service.least.value += 1
+            }),
+            ("ultimate Greatest is", |call| {
+                call.answer.account.ultimate.greatest.value = 0
+            }),
+            ("ultimate Least is", |call| {
+                call.answer.account.ultimate.least.value -= 1
+            }),
+            // The placement that lane 1 alone would be, with its value.
+            ("Normal Greatest is 10237500", |call| {
+                let traffic = &mut call.answer.account.normal_greatest;
+                traffic.value = 10237500;
+                traffic.set = 1;
+                traffic.lanes[1] = Lane::default();
+            }),
+        ],
+    );
+}
+
+#[test]
+fn wrong_stands_are_refused() {
+    // Raising at -1, lowering at 3, on a line without jumps.
+    refuses(
+        &Call::of(&two_lane_job()),
+        &[
+            ("the raising stand", |call| {
+                call.answer.account.raising.station = 1
+            }),
+            ("the raising stand", |call| {
+                call.answer.account.raising.station = -2
+            }),
+            ("the raising stand", |call| {
+                call.answer.account.raising.station = i64::MIN
+            }),
+            ("the raising stand", |call| {
+                call.answer.account.raising.station = i64::MAX
+            }),
+            ("the raising stand has side 2", |call| {
+                call.answer.account.raising.side = 2
+            }),
+            ("the lowering stand", |call| {
+                call.answer.account.lowering.station = -1
+            }),
+            ("the lowering stand", |call| {
+                call.answer.account.lowering.station = 0
+            }),
+            ("the lowering stand has side", |call| {
+                call.answer.account.lowering.side = u32::MAX
+            }),
+            ("the raising stand", |call| {
+                let account = &mut call.answer.account;
+                std::mem::swap(&mut account.raising, &mut account.lowering);
+            }),
+        ],
+    );
+}
+
+/// A stand that no lane uses must still be the best.
+#[test]
+fn an_unused_stand_is_checked_too() {
+    // The transverse line is 0, so nothing rests on the stands.
+    let mut job = level_job(300, 50, vec![0; 7]);
+    job.pieces = pieces(&[(8, 8), (9, 9)]);
+    refuses(
+        &Call::of(&job),
+        &[
+            ("the raising stand", |call| {
+                call.answer.account.raising.station = -1
+            }),
+            ("the lowering stand", |call| {
+                call.answer.account.lowering.station = 1
+            }),
+        ],
+    );
+}
+
+#[test]
+fn wrong_placements_are_refused() {
+    // Two lanes; normal greatest is HN raising at 300 and HN lowering at 1140.
+    refuses(
+        &Call::of(&two_lane_job()),
+        &[
+            ("does not agree with the lane set", |call| {
+                call.answer.account.normal_greatest.set = 0b01
+            }),
+            ("does not agree with the lane set", |call| {
+                call.answer.account.normal_greatest.set = 0b111
+            }),
+            ("names no lane", |call| {
+                call.answer.account.normal_greatest.set |= 1 << 5
+            }),
+            ("names no lane", |call| {
+                call.answer.account.normal_greatest.set |= 1 << 31
+            }),
+            ("past the last lane", |call| {
+                let traffic = &mut call.answer.account.normal_greatest;
+                traffic.set = 0b111;
+                traffic.lanes[2] = Lane {
+                    entry: 1,
+                    centre: 1500,
+                };
+            }),
+            ("unloaded but has a centre", |call| {
+                call.answer.account.normal_greatest.lanes[2].centre = 1
+            }),
+            ("does not agree with the lane set", |call| {
+                call.answer.account.normal_greatest.lanes[4].entry = 1
+            }),
+            ("stands for nothing", |call| {
+                call.answer.account.normal_greatest.lanes[0].entry = 5
+            }),
+            ("stands for nothing", |call| {
+                call.answer.account.normal_greatest.lanes[1].entry = u32::MAX
+            }),
+            ("placement's effect", |call| {
+                call.answer.account.normal_greatest.lanes[1].entry = 1
+            }),
+            ("placement's effect", |call| {
+                call.answer.account.normal_greatest.lanes[0].entry = 2
+            }),
+            ("an HO element in normal", |call| {
+                call.answer.account.normal_greatest.lanes[0].entry = 3
+            }),
+            ("0 HO elements in overload", |call| {
+                call.answer.account.overload_greatest.lanes[0].entry = 1
+            }),
+            ("2 HO elements in overload", |call| {
+                call.answer.account.overload_least.lanes[1].entry = 3
+            }),
+            ("outside the lane's limits", |call| {
+                call.answer.account.normal_greatest.lanes[0].centre = 299
+            }),
+            ("outside the lane's limits", |call| {
+                call.answer.account.normal_greatest.lanes[1].centre = 1141
+            }),
+            ("outside the lane's limits", |call| {
+                call.answer.account.overload_least.lanes[0].centre = i64::MIN
+            }),
+            ("outside the lane's limits", |call| {
+                call.answer.account.overload_least.lanes[0].centre = i64::MAX
+            }),
+            ("placement's effect", |call| {
+                call.answer.account.normal_greatest.lanes[0].centre = 301
+            }),
+            ("placement's effect", |call| {
+                call.answer.account.overload_greatest.lanes[1].centre = 1139
+            }),
+            // Lane 2 left out, with the value kept.
+            ("placement's effect", |call| {
+                let traffic = &mut call.answer.account.normal_least;
+                traffic.set = 1;
+                traffic.lanes[1] = Lane::default();
+            }),
+            // The placements of greatest and least changed about.
+            ("placement's effect", |call| {
+                let account = &mut call.answer.account;
+                let (greatest, least) = (account.normal_greatest, account.normal_least);
+                account.normal_greatest.lanes = least.lanes;
+                account.normal_least.lanes = greatest.lanes;
+            }),
+            // The HO lane changed about.
+            ("placement's effect", |call| {
+                let lanes = &mut call.answer.account.overload_greatest.lanes;
+                (lanes[0].entry, lanes[1].entry) = (1, 4);
+            }),
+        ],
+    );
+}
+
+#[test]
+fn wrong_states_are_refused() {
+    // Service: rows 1 and 2 tie; greatest leaves out effect 2 of effects 1, 2.
+    // Ultimate: row 3; greatest leaves out effect 2, least effect 4.
+    refuses(
+        &Call::of(&two_lane_job()),
+        &[
+            ("whether service has rows", |call| {
+                call.answer.account.service = State::default()
+            }),
+            ("whether ultimate has rows", |call| {
+                call.answer.account.ultimate.present = 2
+            }),
+            ("service Greatest's row is 2, 1 is due", |call| {
+                call.answer.account.service.greatest.row = 2
+            }),
+            ("service Least's row is 2", |call| {
+                call.answer.account.service.least.row = 2
+            }),
+            ("ultimate Least's row is 0", |call| {
+                call.answer.account.ultimate.least.row = 0
+            }),
+            ("ultimate Greatest's row is 33", |call| {
+                call.answer.account.ultimate.greatest.row = 33
+            }),
+            ("effect 1 may not be left out", |call| {
+                call.answer.account.service.greatest.omitted |= 0b0001
+            }),
+            ("not on its chain", |call| {
+                call.answer.account.service.greatest.omitted |= 0b1000
+            }),
+            ("not on its chain", |call| {
+                call.answer.account.ultimate.greatest.omitted |= 0b0100
+            }),
+            ("not on its chain", |call| {
+                call.answer.account.ultimate.greatest.omitted |= 1 << 31
+            }),
+            ("what it comes to", |call| {
+                call.answer.account.service.greatest.omitted = 0
+            }),
+            ("what it comes to", |call| {
+                call.answer.account.service.least.omitted = 0b0010
+            }),
+            ("what it comes to", |call| {
+                call.answer.account.ultimate.least.omitted = 0b0010
+            }),
+            ("what it comes to", |call| {
+                call.answer.account.ultimate.greatest.traffic_left_out = 1
+            }),
+            ("traffic left out is 2", |call| {
+                call.answer.account.ultimate.greatest.traffic_left_out = 2
+            }),
+        ],
+    );
+}
+
+#[test]
+fn a_state_without_rows_is_none_and_zero() {
+    let mut job = two_lane_job();
+    for row in &mut job.rows {
+        row.state = 1;
+    }
+    refuses(
+        &Call::of(&job),
+        &[
+            ("whether ultimate has rows", |call| {
+                call.answer.account.ultimate.present = 1
+            }),
+            ("none but not zero", |call| {
+                call.answer.account.ultimate.least.row = 1
+            }),
+            ("none but not zero", |call| {
+                call.answer.account.ultimate.greatest.value = -1
+            }),
+        ],
+    );
+}
+
+/// Row 4 alone in ultimate: no traffic, and effect 3 of value 0.
+#[test]
+fn a_row_without_traffic_leaves_none_out() {
+    let mut job = two_lane_job();
+    job.rows[2].state = 1;
+    let call = Call::of(&job);
+    takes(
+        &call,
+        &[("effect 3 counts 0 either way", |call| {
+            call.answer.account.ultimate.greatest.omitted = 0b0100
+        })],
+    );
+    refuses(
+        &call,
+        &[("no traffic to leave out", |call| {
+            call.answer.account.ultimate.greatest.traffic_left_out = 1
+        })],
+    );
+}
+
+/// Job A's line has the sum 750 with the left axle from station 5 to 10, and
+/// its lowering stand is anywhere off the line.
+#[test]
+fn equally_good_stands_are_free() {
+    takes(
+        &Call::of(&job_a()),
+        &[
+            ("5", |call| call.answer.account.raising.station = 5),
+            ("7", |call| call.answer.account.raising.station = 7),
+            ("10, right", |call| {
+                call.answer.account.raising.station = 10;
+                call.answer.account.raising.side = 1;
+            }),
+            ("far left", |call| {
+                call.answer.account.lowering.station = i64::MIN
+            }),
+            ("far right", |call| {
+                call.answer.account.lowering.station = i64::MAX
+            }),
+            ("at the line's right end", |call| {
+                call.answer.account.lowering.station = 20;
+                call.answer.account.lowering.side = 0;
+            }),
+        ],
+    );
+    refuses(
+        &Call::of(&job_a()),
+        &[
+            ("the raising stand", |call| {
+                call.answer.account.raising.station = 4
+            }),
+            ("the raising stand", |call| {
+                call.answer.account.raising.station = 11
+            }),
+            ("the lowering stand", |call| {
+                call.answer.account.lowering.station = 19
+            }),
+        ],
+    );
+}
+
+/// Least is 0 for Job A: any lanes may carry the lowering element, which is 0.
+/// A level transverse line leaves the centre free.
+#[test]
+fn equally_good_placements_are_free() {
+    takes(
+        &Call::of(&job_a()),
+        &[("a lane that gives 0", |call| {
+            let traffic = &mut call.answer.account.normal_least;
+            traffic.set = 0b10;
+            traffic.lanes[0] = Lane::default();
+            traffic.lanes[1] = Lane {
+                entry: 2,
+                centre: 1100,
+            };
+        })],
+    );
+    // Five lanes of 400 cm, the centres from 750 to 1250 fifths on.
+    takes(
+        &Call::of(&level_job(2000, 50, vec![1000; 41])),
+        &[
+            ("another centre", |call| {
+                call.answer.account.normal_greatest.lanes[0].centre = 1001
+            }),
+            ("another HO lane", |call| {
+                let lanes = &mut call.answer.account.overload_greatest.lanes;
+                for (lane, entry) in lanes.iter_mut().zip([1, 1, 1, 3, 1]) {
+                    lane.entry = entry;
+                }
+            }),
+        ],
+    );
+}
+
+#[test]
+fn equally_good_omissions_are_free() {
+    // Record 1's factor is 0, and so is row 3's live factor.
+    let mut job = two_lane_job();
+    job.records[1].factor = 0;
+    job.rows[2].live_factor = 0;
+    takes(
+        &Call::of(&job),
+        &[
+            ("effect 2 at factor 0", |call| {
+                call.answer.account.service.greatest.omitted ^= 0b0010
+            }),
+            ("traffic at factor 0", |call| {
+                call.answer.account.ultimate.greatest.traffic_left_out ^= 1
+            }),
+        ],
+    );
+}
+
+/// Whatever number of a right account is changed, the change is refused unless
+/// 01 leaves that number free; values and governing rows never are.
+#[test]
+fn no_changed_value_or_row_passes() {
+    for seed in 0..500 {
+        let case = case(seed);
+        let call = Call::new(&case.job, &case.patch);
+        let changes: [Change; 10] = [
+            |call| call.answer.account.normal_greatest.value -= 1,
+            |call| call.answer.account.normal_least.value += 1,
+            |call| call.answer.account.overload_greatest.value -= 1,
+            |call| call.answer.account.overload_least.value += 1,
+            |call| call.answer.account.service.greatest.value -= 1,
+            |call| call.answer.account.ultimate.least.value += 1,
+            |call| call.answer.account.service.greatest.row += 1,
+            |call| call.answer.account.ultimate.least.row += 1,
+            |call| call.answer.account.service.present ^= 1,
+            |call| call.answer.place += 1,
+        ];
+        for (number, change) in changes.iter().enumerate() {
+            let fault = call.with(change).check();
+            assert!(fault.is_err(), "seed {seed}, change {number}");
+        }
+    }
+}

@@ -1,0 +1,84 @@
+//! Jobs shared by several tests.
+
+#![allow(dead_code)] // Each test file uses some of these.
+
+use second::job::{
+    Effect, Job, Piece, Record, Row, ALWAYS_PRESENT, LIVE_NONE, LIVE_NORMAL, LIVE_OVERLOAD,
+    MAY_BE_LEFT_OUT, SERVICE, ULTIMATE,
+};
+
+pub fn pieces(ordinates: &[(i64, i64)]) -> Vec<Piece> {
+    ordinates
+        .iter()
+        .map(|&(left, right)| Piece { left, right })
+        .collect()
+}
+
+/// Two lanes of 360 cm, a line that lies above 0 and then below, rows that
+/// leave effects out, a tie, a shared tail and an unused record in a circle.
+/// Its figures are worked out in hand_worked.rs.
+pub fn two_lane_job() -> Job {
+    let row = |state, live_kind, live_factor, first| Row {
+        state,
+        live_kind,
+        live_factor,
+        first,
+    };
+    let record = |effect, factor, next| Record {
+        effect,
+        factor,
+        next,
+    };
+    let effect = |value, mark| Effect { value, mark };
+    Job {
+        piece_length: 25,
+        spacing: 50,
+        width: 720,
+        dynamic_kind: 2,
+        dynamic_value: 0,
+        pieces: pieces(&[(0, 100), (100, 0), (0, -60), (-60, 0)]),
+        transverse: (0..=15).map(|number| 1000 - 100 * number).collect(),
+        effects: vec![
+            effect(1000, ALWAYS_PRESENT),
+            effect(-2000, MAY_BE_LEFT_OUT),
+            effect(0, MAY_BE_LEFT_OUT),
+            effect(3000, MAY_BE_LEFT_OUT),
+        ],
+        rows: vec![
+            row(SERVICE, LIVE_NORMAL, 1000, 1),
+            row(SERVICE, LIVE_NORMAL, 1000, 1),
+            row(ULTIMATE, LIVE_OVERLOAD, 1500, 3),
+            row(ULTIMATE, LIVE_NONE, 0, 4),
+        ],
+        records: vec![
+            record(1, 1000, 2),
+            record(2, 1500, 0),
+            record(4, 1200, 1),
+            record(3, 1000, 0),
+            record(2, 0, 5),
+        ],
+    }
+}
+
+/// One piece of 5 m with both ordinates 8, one service row without chain or
+/// traffic, and this carriageway. Raising HN is 7 * 50 * 16 + 1600 * 8 = 18400,
+/// HO 5600 + 3200 * 8 = 31200; lowering is 0. The dynamic factor is 1000.
+pub fn level_job(width: i64, spacing: i64, transverse: Vec<i64>) -> Job {
+    Job {
+        piece_length: 50,
+        spacing,
+        width,
+        dynamic_kind: 2,
+        dynamic_value: 0,
+        pieces: pieces(&[(8, 8)]),
+        transverse,
+        effects: vec![],
+        rows: vec![Row {
+            state: SERVICE,
+            live_kind: LIVE_NONE,
+            live_factor: 0,
+            first: 0,
+        }],
+        records: vec![],
+    }
+}

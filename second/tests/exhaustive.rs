@@ -1,0 +1,169 @@
+//! Every arrangement of tiny jobs for small k: none goes further than the
+//! report, and one goes as far where k is a multiple of the lane count.
+
+mod common;
+
+use common::{level_job, pieces};
+use second::arrangement::{Arrangement, LoadedLane};
+use second::job::Job;
+use second::loads::{Element, Live, Question, Side};
+use second::solve::account_of;
+
+/// Every set of k-ths of the line.
+fn every_loading(k_ths: i128) -> Vec<Vec<std::ops::Range<i128>>> {
+    (0..1_u32 << k_ths)
+        .map(|set| {
+            let loaded = (0..k_ths).filter(|at| set & (1 << at) != 0);
+            loaded.map(|at| at..at + 1).collect()
+        })
+        .collect()
+}
+
+/// Every element in a lane; the centres and the axles' distance are given by
+/// hand, in k-ths of a cm and of a piece.
+fn every_element(
+    job: &Job,
+    k: i128,
+    centres: std::ops::RangeInclusive<i128>,
+    axle_distance: i128,
+) -> Vec<LoadedLane> {
+    let line_end = job.pieces.len() as i128 * k;
+    let mut elements = vec![];
+    for loaded in every_loading(line_end) {
+        for left_axle in -axle_distance - 1..=line_end + 1 {
+            for side in [Side::Left, Side::Right] {
+                for centre in centres.clone() {
+                    elements.push(LoadedLane {
+                        element: Element::Hn,
+                        loaded: loaded.clone(),
+                        left_axle,
+                        side,
+                        centre,
+                    });
+                }
+            }
+        }
+    }
+    elements
+}
+
+fn as_ho(element: &LoadedLane) -> LoadedLane {
+    LoadedLane {
+        element: Element::Ho,
+        ..element.clone()
+    }
+}
+
+/// The furthest of these arrangements.
+struct Furthest {
+    live: Live,
+    greatest: i128,
+    least: i128,
+}
+
+impl Furthest {
+    fn new(live: Live) -> Furthest {
+        Furthest {
+            live,
+            greatest: i128::MIN,
+            least: i128::MAX,
+        }
+    }
+
+    fn take(&mut self, job: &Job, arrangement: &Arrangement) {
+        assert_eq!(arrangement.lawful(job, self.live), Ok(()));
+        let effect = arrangement.effect(job);
+        self.greatest = self.greatest.max(effect.round(Question::Greatest));
+        self.least = self.least.min(effect.round(Question::Least));
+    }
+
+    fn is_reported(&self, job: &Job) {
+        let account = account_of(job);
+        let reported = |question| i128::from(account.traffic(self.live, question).value);
+        let due = (reported(Question::Greatest), reported(Question::Least));
+        assert_eq!((self.greatest, self.least), due, "{:?}", self.live);
+    }
+}
+
+/// Lines of two pieces with jumps and both signs.
+fn lines() -> Vec<Vec<second::job::Piece>> {
+    vec![
+        pieces(&[(6, 10), (8, 3)]),
+        pieces(&[(-3, 0), (7, 2)]),
+        pieces(&[(9, 9), (-4, -8)]),
+        pieces(&[(0, -5), (-5, -1)]),
+        pieces(&[(0, 0), (0, 4)]),
+    ]
+}
+
+/// W 303: the one lane's centre runs from 150 to 153 cm, past ordinate 15 of
+/// g 10 at 150 cm; and with g 38, past ordinate 4 at 152 cm.
+#[test]
+fn one_lane() {
+    for line in lines() {
+        for (spacing, ordinates) in [(10, 32), (38, 9)] {
+            let transverse = (0..ordinates).map(|at| [7, -9, 4][at % 3] * 100 + 3);
+            let mut job = level_job(303, spacing, transverse.collect());
+            job.pieces = line.clone();
+            (job.dynamic_kind, job.dynamic_value) = (1, 1111);
+            for k in [1, 2, 3] {
+                let mut normal = Furthest::new(Live::Normal);
+                let mut overload = Furthest::new(Live::Overload);
+                let mut arrangement = Arrangement::empty(k);
+                normal.take(&job, &arrangement);
+                for element in every_element(&job, k, 150 * k..=153 * k, k) {
+                    arrangement.lanes[0] = Some(as_ho(&element));
+                    overload.take(&job, &arrangement);
+                    arrangement.lanes[0] = Some(element);
+                    normal.take(&job, &arrangement);
+                }
+                normal.is_reported(&job);
+                overload.is_reported(&job);
+            }
+        }
+    }
+}
+
+/// W 602: two lanes of 301 cm, whose centres run from 150 to 151 and from 451
+/// to 452 cm, all in whole cm, so that k = 1 reaches every limit.
+#[test]
+fn two_lanes() {
+    for (line, across) in
+        lines()
+            .into_iter()
+            .zip([[1000, 500], [1000, -700], [300, 33], [-900, -100], [10, 0]])
+    {
+        // g 43: 150 cm lies between ordinates 3 and 4, 451 between 10 and 11.
+        let mut transverse = vec![0; 15];
+        (transverse[3], transverse[4]) = (across[0], across[0] / 2);
+        (transverse[10], transverse[11]) = (across[1] / 3, across[1]);
+        let mut job = level_job(602, 43, transverse);
+        job.pieces = line;
+        let left = every_element(&job, 1, 150..=151, 1);
+        let right = every_element(&job, 1, 451..=452, 1);
+        let mut normal = Furthest::new(Live::Normal);
+        let mut overload = Furthest::new(Live::Overload);
+        normal.take(&job, &Arrangement::empty(1));
+        let pair = |left: Option<LoadedLane>, right: Option<LoadedLane>| {
+            let mut arrangement = Arrangement::empty(1);
+            arrangement.lanes[0] = left;
+            arrangement.lanes[1] = right;
+            arrangement
+        };
+        for one in &left {
+            normal.take(&job, &pair(Some(one.clone()), None));
+            overload.take(&job, &pair(Some(as_ho(one)), None));
+            for other in &right {
+                normal.take(&job, &pair(Some(one.clone()), Some(other.clone())));
+                overload.take(&job, &pair(Some(as_ho(one)), Some(other.clone())));
+                overload.take(&job, &pair(Some(one.clone()), Some(as_ho(other))));
+            }
+        }
+        for other in &right {
+            normal.take(&job, &pair(None, Some(other.clone())));
+            overload.take(&job, &pair(None, Some(as_ho(other))));
+        }
+        normal.is_reported(&job);
+        overload.is_reported(&job);
+    }
+}

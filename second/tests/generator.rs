@@ -1,0 +1,486 @@
+//! The generator reaches every refusal, by every cause and kind of place, and
+//! every shape of job and outcome.
+
+use second::account::Account;
+use second::generator::{case, damaged, Case};
+use second::job::Job;
+use second::lanes::lane_count;
+use second::line::{pair_ordinates, patch_byte, pieces_between_axles, stations, Stand};
+use second::loads::Side;
+use second::rng::Rng;
+use second::sections::Sections;
+use second::words::words_of;
+use second::{solve, Answer};
+use std::collections::BTreeSet;
+
+const CASES: u64 = 8_000;
+
+/// What is worth reaching about a case.
+fn labels(case: &Case, answer: &Answer) -> Vec<String> {
+    if answer.refusal == 0 {
+        let job = Job::decode(&words_of(&case.job));
+        let mut labels = job_labels(&job);
+        labels.extend(outcome_labels(&job, &answer.account));
+        if case.patch.len() > job.pieces.len() {
+            labels.push("a longer patch buffer".into());
+        }
+        labels
+    } else {
+        refusal_labels(case, answer)
+    }
+}
+
+fn refusal_labels(case: &Case, answer: &Answer) -> Vec<String> {
+    let words = words_of(&case.job);
+    let (number, place) = (answer.refusal, answer.place as usize);
+    let mut labels = vec![];
+    let mut reached = |label: &str| labels.push(format!("{number}: {label}"));
+    match number {
+        1 if case.job.is_empty() => reached("no bytes"),
+        1 if case.job.len() < 40 => reached("short"),
+        1 if !case.job.len().is_multiple_of(4) => reached("uneven"),
+        1 => reached("edition"),
+        2 => {
+            reached(&format!("word {place}"));
+            if place == 2 && (1..=1000).contains(&words[2]) {
+                reached("line too long");
+            }
+            if place == 6 {
+                reached(&format!("value of kind {}", words[5]));
+            }
+        }
+        3 if words.len() < place => reached("too few"),
+        3 => reached("too many"),
+        _ => {
+            let sections = Sections::called_for_by(&words);
+            let mut in_section = |name: &str, section: &std::ops::Range<usize>, each: usize| {
+                if section.contains(&place) {
+                    let within = place - section.start;
+                    reached(&format!("{name} word {}", within % each));
+                    if within < each {
+                        reached(&format!("first {name}"));
+                    }
+                    if place + each >= section.end {
+                        reached(&format!("last {name}"));
+                    }
+                    if name == "row" && within % each == 2 && words[place - 1] == 0 {
+                        reached("live factor for kind 0");
+                    }
+                }
+            };
+            in_section("piece", &sections.line, 2);
+            in_section("transverse", &sections.transverse, 1);
+            in_section("effect", &sections.effects, 2);
+            in_section("row", &sections.rows, 4);
+            in_section("record", &sections.records, 3);
+            if number == 9 {
+                reached(match case.patch.len() {
+                    0 => "no patch bytes",
+                    length if length + 1 == place => "one byte short",
+                    _ => "some bytes short",
+                });
+            }
+        }
+    }
+    labels
+}
+
+fn job_labels(job: &Job) -> Vec<String> {
+    let mut labels = vec![
+        format!("h {}", job.piece_length),
+        format!("{} lanes", lane_count(job.width)),
+        format!("dynamic kind {}", job.dynamic_kind),
+    ];
+    if job.pieces.len() as i64 * job.piece_length == 1000 {
+        labels.push(format!("longest line of h {}", job.piece_length));
+    }
+    if [300, 599, 600, 969, 970, 1339, 1340, 1709, 1710, 2079].contains(&job.width) {
+        labels.push(format!("W {}", job.width));
+    }
+    if job.dynamic_kind == 3 && (99..=101).contains(&job.dynamic_value) {
+        labels.push(format!("fill {}", job.dynamic_value));
+    }
+    let mut reached = |holds: bool, label: &str| {
+        if holds {
+            labels.push(label.into());
+        }
+    };
+    reached(job.pieces.len() == 1, "one piece");
+    reached(job.spacing == 10, "g 10");
+    reached(job.spacing == 50, "g 50");
+    reached(job.width % job.spacing == 0, "g divides W");
+    reached(job.width % job.spacing != 0, "g does not divide W");
+
+    let bytes: BTreeSet<u8> = job.pieces.iter().map(patch_byte).collect();
+    reached(bytes == [0].into(), "zero line");
+    reached(bytes == [1].into(), "line above 0");
+    reached(bytes == [2].into(), "line below 0");
+    reached(bytes.len() == 3, "line of all signs");
+    let joins = job.pieces.windows(2).all(|two| two[0].right == two[1].left);
+    reached(joins && job.pieces.len() > 2, "joined line");
+    reached(!joins, "line with jumps");
+    let ordinates = || {
+        job.pieces
+            .iter()
+            .flat_map(|piece| [piece.left, piece.right])
+    };
+    reached(
+        ordinates().any(|ordinate| ordinate == 5000),
+        "ordinate 5000",
+    );
+    reached(
+        ordinates().any(|ordinate| ordinate == -5000),
+        "ordinate -5000",
+    );
+    let across = &job.transverse;
+    reached(
+        across.iter().all(|&ordinate| ordinate == 0),
+        "zero transverse line",
+    );
+    reached(across.contains(&1000), "transverse 1000");
+    reached(across.contains(&-1000), "transverse -1000");
+    let both_signs = across.iter().any(|&t| t > 0) && across.iter().any(|&t| t < 0);
+    reached(both_signs, "transverse line of two signs");
+
+    reached(job.effects.is_empty(), "no effects");
+    reached(job.effects.len() == 16, "16 effects");
+    reached(
+        job.effects.iter().any(|effect| effect.value == 0),
+        "effect 0",
+    );
+    let extreme = |value: i64| job.effects.iter().any(|effect| effect.value == value);
+    reached(extreme(1_000_000_000), "effect 1000000000");
+    reached(extreme(-1_000_000_000), "effect -1000000000");
+    reached(job.rows.len() == 1, "one row");
+    reached(job.rows.len() == 32, "32 rows");
+    reached(job.records.is_empty(), "no records");
+    reached(job.records.len() == 512, "512 records");
+    for kind in 0..=2 {
+        let has_kind = job.rows.iter().any(|row| row.live_kind == kind);
+        reached(has_kind, &format!("live kind {kind}"));
+    }
+    let traffic_rows = || job.rows.iter().filter(|row| row.live_kind != 0);
+    reached(
+        traffic_rows().any(|row| row.live_factor == 0),
+        "live factor 0",
+    );
+    reached(
+        traffic_rows().any(|row| row.live_factor == 3000),
+        "live factor 3000",
+    );
+    reached(job.rows.iter().any(|row| row.first == 0), "empty chain");
+
+    let chains: Vec<_> = job.rows.iter().map(|row| job.chain(row)).collect();
+    reached(
+        chains.iter().any(|chain| chain.len() == 16),
+        "chain of 16 records",
+    );
+    let on_chains = || chains.iter().flatten();
+    reached(
+        on_chains().any(|record| record.factor == 0),
+        "factor 0 on a chain",
+    );
+    // Two rows that differ at the start and share a tail.
+    let shares_tail = job.rows.iter().enumerate().any(|(at, row)| {
+        job.rows[..at].iter().any(|other| {
+            let (one, two) = (job.chain(row), job.chain(other));
+            row.first != other.first && one.last().is_some() && one.last() == two.last()
+        })
+    });
+    reached(shares_tail, "shared tail");
+    let mut used = BTreeSet::new();
+    for row in &job.rows {
+        let mut number = row.first;
+        while number != 0 {
+            used.insert(number);
+            number = job.records[number - 1].next;
+        }
+    }
+    let unused = || (1..=job.records.len()).filter(|number| !used.contains(number));
+    reached(unused().next().is_some(), "unused record");
+    let leads_to_itself = |number: usize| job.records[number - 1].next == number;
+    reached(unused().any(leads_to_itself), "unused record in a circle");
+    labels
+}
+
+fn outcome_labels(job: &Job, account: &Account) -> Vec<String> {
+    let mut labels = vec![];
+    let traffic = [
+        ("normal greatest", account.normal_greatest),
+        ("normal least", account.normal_least),
+        ("overload greatest", account.overload_greatest),
+        ("overload least", account.overload_least),
+    ];
+    if account.overload_greatest.value == 33_423_000_000 {
+        labels.push("the largest overload greatest".into());
+    }
+    if account.overload_least.value == -33_423_000_000 {
+        labels.push("the largest overload least".into());
+    }
+    for (name, traffic) in traffic {
+        labels.push(format!("{name} on {} lanes", traffic.set.count_ones()));
+        if traffic.set.count_ones() < lane_count(job.width) as u32 && traffic.value != 0 {
+            labels.push(format!("{name} spares a lane"));
+        }
+        for (lane, reported) in traffic.lanes.iter().enumerate() {
+            labels.push(format!("{name}: entry {}", reported.entry));
+            if reported.entry >= 3 {
+                labels.push(format!("{name}: HO in lane {}", lane + 1));
+            }
+        }
+    }
+    for (name, stand) in [("raising", account.raising), ("lowering", account.lowering)] {
+        labels.push(format!("{name} side {}", stand.side));
+        // Whether every best stand has an axle off the line.
+        let sum_at = |station: i64, side: Side| {
+            let sum = pair_ordinates(job, Stand { station, side });
+            if name == "raising" {
+                sum
+            } else {
+                -sum
+            }
+        };
+        let best_of = |stations: std::ops::RangeInclusive<i64>| {
+            let sums = stations
+                .flat_map(|station| [Side::Left, Side::Right].map(|side| sum_at(station, side)));
+            sums.max().unwrap_or(0)
+        };
+        let (first, last) = stations(job).into_inner();
+        if best_of(first..=-1) > best_of(0..=last) {
+            labels.push(format!("{name} with the left axle off the line"));
+        }
+        let last_on = last - pieces_between_axles(job);
+        if best_of(last_on + 1..=last) > best_of(first..=last_on) {
+            labels.push(format!("{name} with the right axle off the line"));
+        }
+        let best_from = |side: Side| (first..=last).map(|at| sum_at(at, side)).max();
+        if best_from(Side::Left) > best_from(Side::Right) {
+            labels.push(format!("{name} from the left only"));
+        }
+        if best_from(Side::Right) > best_from(Side::Left) {
+            labels.push(format!("{name} from the right only"));
+        }
+    }
+    for (name, state) in [("service", account.service), ("ultimate", account.ultimate)] {
+        if state.present == 0 {
+            labels.push(format!("{name} none"));
+            continue;
+        }
+        for (question, governing) in [("greatest", state.greatest), ("least", state.least)] {
+            let row = job.rows[governing.row as usize - 1];
+            labels.push(format!("{name} {question} of kind {}", row.live_kind));
+            if governing.omitted != 0 {
+                labels.push(format!("{name} {question} leaves out effects"));
+            }
+            let later = &job.rows[governing.row as usize..];
+            if later.contains(&row) {
+                labels.push(format!("{name} {question} ties"));
+            }
+            if governing.row > 1 && job.rows[0].state == row.state {
+                labels.push(format!("{name} {question} past its first row"));
+            }
+        }
+    }
+    labels
+}
+
+fn expected_labels() -> BTreeSet<String> {
+    let mut expected: BTreeSet<String> = [
+        "a longer patch buffer",
+        "the largest overload greatest",
+        "the largest overload least",
+        "1: no bytes",
+        "1: short",
+        "1: uneven",
+        "1: edition",
+        "2: line too long",
+        "2: value of kind 1",
+        "2: value of kind 2",
+        "2: value of kind 3",
+        "3: too few",
+        "3: too many",
+        "4: piece word 0",
+        "4: piece word 1",
+        "4: first piece",
+        "4: last piece",
+        "4: first transverse",
+        "4: last transverse",
+        "5: first piece",
+        "5: last piece",
+        "6: effect word 0",
+        "6: effect word 1",
+        "6: first effect",
+        "6: last effect",
+        "6: row word 0",
+        "6: row word 1",
+        "6: row word 2",
+        "6: row word 3",
+        "6: live factor for kind 0",
+        "6: first row",
+        "6: last row",
+        "6: record word 0",
+        "6: record word 1",
+        "6: record word 2",
+        "6: first record",
+        "6: last record",
+        "7: row word 0",
+        "7: first row",
+        "7: last row",
+        "8: row word 0",
+        "8: first row",
+        "8: last row",
+        "9: no patch bytes",
+        "9: one byte short",
+        "9: some bytes short",
+        "one piece",
+        "g 10",
+        "g 50",
+        "g divides W",
+        "g does not divide W",
+        "zero line",
+        "line above 0",
+        "line below 0",
+        "line of all signs",
+        "joined line",
+        "line with jumps",
+        "ordinate 5000",
+        "ordinate -5000",
+        "zero transverse line",
+        "transverse 1000",
+        "transverse -1000",
+        "transverse line of two signs",
+        "no effects",
+        "16 effects",
+        "effect 0",
+        "effect 1000000000",
+        "effect -1000000000",
+        "one row",
+        "32 rows",
+        "no records",
+        "512 records",
+        "live kind 0",
+        "live kind 1",
+        "live kind 2",
+        "live factor 0",
+        "live factor 3000",
+        "empty chain",
+        "chain of 16 records",
+        "factor 0 on a chain",
+        "shared tail",
+        "unused record",
+        "unused record in a circle",
+        "fill 99",
+        "fill 100",
+        "fill 101",
+    ]
+    .map(String::from)
+    .into();
+    let mut due = |label: String| {
+        expected.insert(label);
+    };
+    for place in 1..=9 {
+        due(format!("2: word {place}"));
+    }
+    for h in [1, 2, 5, 10, 25, 50] {
+        due(format!("h {h}"));
+        due(format!("longest line of h {h}"));
+    }
+    for n in 1..=5 {
+        due(format!("{n} lanes"));
+    }
+    for kind in 1..=3 {
+        due(format!("dynamic kind {kind}"));
+    }
+    for width in [300, 599, 600, 969, 970, 1339, 1340, 1709, 1710, 2079] {
+        due(format!("W {width}"));
+    }
+    for question in ["greatest", "least"] {
+        for lanes in 0..=5 {
+            due(format!("normal {question} on {lanes} lanes"));
+        }
+        for lanes in 1..=5 {
+            due(format!("overload {question} on {lanes} lanes"));
+            due(format!("overload {question}: HO in lane {lanes}"));
+        }
+        for entry in 0..=2 {
+            due(format!("normal {question}: entry {entry}"));
+        }
+        for entry in 0..=4 {
+            due(format!("overload {question}: entry {entry}"));
+        }
+        for live in ["normal", "overload"] {
+            due(format!("{live} {question} spares a lane"));
+        }
+        for state in ["service", "ultimate"] {
+            due(format!("{state} none"));
+            for kind in 0..=2 {
+                due(format!("{state} {question} of kind {kind}"));
+            }
+            due(format!("{state} {question} leaves out effects"));
+            due(format!("{state} {question} ties"));
+            due(format!("{state} {question} past its first row"));
+        }
+    }
+    for direction in ["raising", "lowering"] {
+        due(format!("{direction} side 0"));
+        due(format!("{direction} side 1"));
+        due(format!("{direction} with the left axle off the line"));
+        due(format!("{direction} with the right axle off the line"));
+        due(format!("{direction} from the left only"));
+        due(format!("{direction} from the right only"));
+    }
+    expected
+}
+
+#[test]
+fn the_cases_reach_every_refusal_and_shape() {
+    let mut reached = BTreeSet::new();
+    for seed in 0..CASES {
+        let case = case(seed);
+        let answer = solve(&case.job, &mut case.patch.clone());
+        reached.extend(labels(&case, &answer));
+    }
+    let missed: Vec<_> = expected_labels().difference(&reached).cloned().collect();
+    assert!(missed.is_empty(), "never reached: {missed:?}");
+}
+
+/// A single fault nearly always gets its own refusal; the count's fault may
+/// leave the count as it was or make the line too long.
+#[test]
+fn a_fault_alone_gives_its_refusal() {
+    for fault in 1..=9 {
+        let hits = (0..200).filter(|&seed| {
+            let case = damaged(&mut Rng::new(seed), &[fault]);
+            solve(&case.job, &mut case.patch.clone()).refusal == fault
+        });
+        let least = if fault == 3 { 180 } else { 200 };
+        assert!(hits.count() >= least, "refusal {fault}");
+    }
+}
+
+/// Of two faults the lower refusal is given.
+#[test]
+fn two_faults_give_the_lower_refusal() {
+    for low in [1, 2, 4, 5, 6, 7, 8] {
+        for high in low + 1..=9 {
+            for seed in 0..20 {
+                let case = damaged(&mut Rng::new(seed), &[low, high]);
+                let answer = solve(&case.job, &mut case.patch.clone());
+                assert_eq!(answer.refusal, low, "{low} and {high}, seed {seed}");
+            }
+        }
+    }
+}
+
+/// A seed's case is fixed: this sum over many cases (FNV-1a) never changes.
+#[test]
+fn the_cases_never_change() {
+    let mut sum = 0xcbf2_9ce4_8422_2325_u64;
+    for seed in 0..2000 {
+        let case = case(seed);
+        for byte in case.job.into_iter().chain(case.patch) {
+            sum = (sum ^ u64::from(byte)).wrapping_mul(0x0000_0100_0000_01B3);
+        }
+    }
+    assert_eq!(sum, 3_699_499_953_521_068_672);
+}

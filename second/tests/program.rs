@@ -1,0 +1,219 @@
+//! 01 "The host and the program": the program as a whole.
+
+use std::fs::{self, File};
+use std::path::PathBuf;
+use std::process::{Command, Output, Stdio};
+
+fn second(arguments: &[&str], input: Stdio) -> Output {
+    Command::new(env!("CARGO_BIN_EXE_second"))
+        .args(arguments)
+        .stdin(input)
+        .output()
+        .unwrap()
+}
+
+/// Runs the program on these bytes, by way of a file of this name.
+fn second_on(name: &str, bytes: &[u8]) -> Output {
+    command_on(&[], name, bytes)
+}
+
+fn command_on(arguments: &[&str], name: &str, bytes: &[u8]) -> Output {
+    let path = scratch(name);
+    fs::write(&path, bytes).unwrap();
+    second(arguments, Stdio::from(File::open(&path).unwrap()))
+}
+
+fn scratch(name: &str) -> PathBuf {
+    PathBuf::from(env!("CARGO_TARGET_TMPDIR")).join(name)
+}
+
+fn printed(output: &Output) -> &str {
+    std::str::from_utf8(&output.stdout).unwrap()
+}
+
+#[track_caller]
+fn prints(output: &Output, expected: &str) {
+    assert_eq!(printed(output), expected);
+    assert_eq!(output.stderr, b"");
+    assert_eq!(output.status.code(), Some(0));
+}
+
+const JOB_A_LINES: &str = "\
+normal greatest 162556875 least 0
+overload greatest 263981250 least 0
+service greatest 299451781250 row 1 least 80000000000 row 1
+ultimate greatest 491971875000 row 2 least 96000000000 row 2
+";
+
+fn job_a() -> Vec<u8> {
+    let output = second(&["job-a"], Stdio::null());
+    assert_eq!(output.status.code(), Some(0));
+    output.stdout
+}
+
+#[test]
+fn job_a_prints_its_four_lines() {
+    prints(&second_on("job-a", &job_a()), JOB_A_LINES);
+}
+
+#[test]
+fn empty_input_is_refused_by_the_kernel_not_the_program() {
+    prints(&second(&[], Stdio::null()), "refused 1 at 0\n");
+}
+
+#[test]
+fn a_directory_as_standard_input_is_an_error() {
+    let directory = File::open(env!("CARGO_TARGET_TMPDIR")).unwrap();
+    let output = second(&[], Stdio::from(directory));
+    assert_eq!(printed(&output), "");
+    assert_eq!(output.status.code(), Some(1));
+    let message = String::from_utf8(output.stderr).unwrap();
+    assert!(message.starts_with("second: cannot read standard input"));
+}
+
+/// Job A has 85 words. Were all 20001 bytes read, their count would not be
+/// divisible by 4 and the refusal would be 1; the 16384 read are 4096 words.
+#[test]
+fn only_16384_bytes_are_read() {
+    for length in [16384, 16385, 20000, 20001] {
+        let mut job = job_a();
+        job.resize(length, 0);
+        prints(
+            &second_on(&format!("{length}-bytes"), &job),
+            "refused 3 at 85\n",
+        );
+    }
+    let mut job = job_a();
+    job.resize(16383, 0);
+    prints(&second_on("16383-bytes", &job), "refused 1 at 0\n");
+}
+
+/// Job A without its ultimate row: word 8 is R, and rows are at words 71 to 78.
+#[test]
+fn a_state_without_rows_prints_none() {
+    let mut job = job_a();
+    job[8 * 4] = 1;
+    job.drain(75 * 4..79 * 4);
+    let expected = "\
+normal greatest 162556875 least 0
+overload greatest 263981250 least 0
+service greatest 299451781250 row 1 least 80000000000 row 1
+ultimate none
+";
+    prints(&second_on("no-ultimate", &job), expected);
+}
+
+/// The largest line has 1000 pieces; the program's own buffer holds them.
+#[test]
+fn a_line_of_1000_pieces_is_never_refused_for_the_patch() {
+    let mut words = vec![1, 1, 1000, 50, 300, 2, 0, 0, 1, 0];
+    words.extend([0; 2000 + 7]);
+    words.extend([2, 0, 0, 0]);
+    let job: Vec<u8> = words
+        .iter()
+        .flat_map(|word: &i32| word.to_le_bytes())
+        .collect();
+    let expected = "\
+normal greatest 0 least 0
+overload greatest 0 least 0
+service none
+ultimate greatest 0 row 1 least 0 row 1
+";
+    prints(&second_on("1000-pieces", &job), expected);
+}
+
+#[test]
+fn account_adds_placements_and_omissions() {
+    let expected = format!(
+        "{JOB_A_LINES}\
+raising station 5 left
+lowering station -5 left
+normal greatest lane set 3
+  lane 1 HN raising centre 300
+  lane 2 HN raising centre 1020
+normal least lane set 0
+overload greatest lane set 3
+  lane 1 HO raising centre 300
+  lane 2 HN raising centre 1020
+overload least lane set 1
+  lane 1 HO lowering centre 300
+service greatest leaves out nothing
+service least leaves out nothing
+ultimate greatest leaves out nothing
+ultimate least leaves out nothing
+"
+    );
+    prints(&command_on(&["account"], "account", &job_a()), &expected);
+    prints(&second(&["account"], Stdio::null()), "refused 1 at 0\n");
+}
+
+#[test]
+fn beat_says_that_job_a_is_not_beaten() {
+    let output = command_on(&["beat", "1", "300"], "beat", &job_a());
+    prints(&output, "not beaten in 300 tries\n");
+    prints(
+        &second(&["beat", "1", "1"], Stdio::null()),
+        "refused 1 at 0\n",
+    );
+}
+
+#[test]
+fn generate_writes_the_cases_of_its_seeds() {
+    let directory = scratch("generated");
+    fs::create_dir_all(&directory).unwrap();
+    let output = second(
+        &["generate", "7", "3", directory.to_str().unwrap()],
+        Stdio::null(),
+    );
+    prints(&output, "");
+    for seed in 7..10 {
+        let case = second::generator::case(seed);
+        let file = |ending: &str| fs::read(directory.join(format!("{seed}.{ending}"))).unwrap();
+        assert_eq!((file("job"), file("patch")), (case.job, case.patch));
+    }
+    let missing = scratch("missing-directory");
+    let output = second(
+        &["generate", "7", "1", missing.to_str().unwrap()],
+        Stdio::null(),
+    );
+    assert_eq!(output.status.code(), Some(1));
+    assert!(output.stderr.starts_with(b"second: cannot write"));
+}
+
+#[test]
+fn unknown_arguments_are_a_usage_error() {
+    for arguments in [
+        &["unknown"][..],
+        &["job-a", "more"],
+        &["--help"],
+        &[""],
+        &["generate", "1", "2"],
+        &["generate", "-1", "2", "."],
+        &["generate", "18446744073709551615", "1", "."],
+        &["beat", "1", "4294967296"],
+        &["beat", "one", "1"],
+    ] {
+        let output = second(arguments, Stdio::null());
+        assert_eq!(output.status.code(), Some(2), "{arguments:?}");
+        assert_eq!(printed(&output), "");
+        assert!(output.stderr.starts_with(b"usage:"));
+    }
+}
+
+/// Standard output that takes no bytes is an error, not a silent success.
+#[cfg(target_os = "linux")]
+#[test]
+fn a_full_standard_output_is_an_error() {
+    let full = fs::OpenOptions::new()
+        .write(true)
+        .open("/dev/full")
+        .unwrap();
+    let status = Command::new(env!("CARGO_BIN_EXE_second"))
+        .arg("job-a")
+        .stdin(Stdio::null())
+        .stdout(Stdio::from(full))
+        .stderr(Stdio::null())
+        .status()
+        .unwrap();
+    assert_eq!(status.code(), Some(1));
+}
