@@ -1,6 +1,7 @@
 //! 01 "Arrangements, for demand 3": arrangements in k-ths, judged and
-//! evaluated in exact fractions. Nothing here asks for the best of anything,
-//! and nothing is taken from the code that does.
+//! evaluated in exact fractions. Nothing here asks for the best of anything.
+//! With the code that does, it shares only the lane count, the loads and
+//! factors of loads.rs and the patch byte that a direction loads.
 
 use crate::account::{entry_of, side_of, Account, Traffic, UNLOADED};
 use crate::fraction::Fraction;

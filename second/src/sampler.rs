@@ -3,7 +3,7 @@
 //!
 //! The draws lean towards what goes far: loaded k-ths of one sign, axles at and
 //! near good stands, centres at and near limits and transverse ordinates. All
-//! is evaluated as arrangements; nothing is taken from the code under `solve`.
+//! is found and evaluated by arrangement.rs, not by the code that `solve` runs.
 
 use crate::account::Account;
 use crate::arrangement::{

@@ -1,5 +1,5 @@
 //! Every arrangement of tiny jobs for small k: none goes further than the
-//! report, and one goes as far where k is a multiple of the lane count.
+//! report, and one goes as far, since every limit of a centre here is a k-th.
 
 mod common;
 
