@@ -1,4 +1,5 @@
 pub mod Figures
+pub mod Cases
 pub mod Determined
 pub mod Accepted
 pub mod Signs

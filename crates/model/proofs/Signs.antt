@@ -106,8 +106,8 @@ uniform-zero line sense =
 -- ---- an element
 -- an axle's load is not negative
 pub axle-scale : (q : Question) (kind : Kind) (x v : ℤ) → NoBetter q x v → NoBetter q (axle kind *ℤ x) (axle kind *ℤ v)
-axle-scale q HN x v h = no-better-scale q 1600 x v h
-axle-scale q HO x v h = no-better-scale q 3200 x v h
+axle-scale q HN x v h = no-better-scale q _ x v h
+axle-scale q HO x v h = no-better-scale q _ x v h
 
 -- a sense's line effect is not beaten by no load
 pub line-zero : (line : InfluenceLine) (kind : Kind) (sense : Sense) → NoBetter (sought sense) (pos 0) (lineEffect line kind sense)
