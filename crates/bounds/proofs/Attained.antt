@@ -59,7 +59,8 @@ attains q job live w g-pos each best =
     n-pos : zero < n
     n-pos = some-lane (job .deck .width)
 
-    lane : (kind : Kind) (i : ℕ) (t : Bool) → (t ≡ true → loadEffect job n (w i) ≡ pos (n * n) *ℤ laneEffect q job kind i) → (if t then loadEffect job n (w i) else pos 0) ≡ pos (n * n) *ℤ (if t then laneEffect q job kind i else pos 0)
+    lane : (kind : Kind) (i : ℕ) (t : Bool) → (t ≡ true → loadEffect job n (w i) ≡ pos (n * n) *ℤ laneEffect q job kind i) →
+        (if t then loadEffect job n (w i) else pos 0) ≡ pos (n * n) *ℤ (if t then laneEffect q job kind i else pos 0)
     lane kind i true h = h refl
     lane kind i false h = solve 1 (λ c. lit 0 ≐ c ⊗ lit 0) tt (pos (n * n))
 
@@ -189,7 +190,8 @@ module _ (q : Question) (job : Job) (patch rest : List ℕ) (a : Account) (bytes
         same : (kind : Kind) → bestUnder q job kind (reported job patch a p) ≡ placedUnder q job kind p
         same kind = sum-cong n _ _ (λ i h. ap (λ (t : Bool). if t then laneEffect q job kind i else pos 0) (carries-entry kind i))
 
-        go : (kind : Kind) (i : ℕ) (entry : Entry) (centre : ℕ) → EntryRight q job i entry centre → entryIs kind entry ≡ true → loadEffect job n (reportedLoad job patch a entry centre) ≡ pos (n * n) *ℤ laneEffect q job kind i
+        go : (kind : Kind) (i : ℕ) (entry : Entry) (centre : ℕ) → EntryRight q job i entry centre → entryIs kind entry ≡ true →
+            loadEffect job n (reportedLoad job patch a entry centre) ≡ pos (n * n) *ℤ laneEffect q job kind i
         go kind i Unloaded centre r t = absurd (false≢true t)
         go HN i (Hn sense) centre r t = element-given HN sense i centre r
         go HN i (Ho sense) centre r t = absurd (false≢true t)
@@ -227,7 +229,8 @@ module _ (q : Question) (job : Job) (p : Placement) (s : ℕ) (small : s < 2 ^ l
   )
 
   -- with HO in lane o alone, that lane's HO too
-  pub placed-overload : (o : ℕ) → o < lanes job → ((i : ℕ) → i < lanes job → entryIs HO (laneAt p i .entry) ≡ eqb i o) → (placedLanes job HO p ≡ 1) × (placedSum q job p ≡ pos 20 *ℤ laneEffect q job HO o +ℤ setSum (lanes job) (laneEffect q job HN) s)
+  pub placed-overload : (o : ℕ) → o < lanes job → ((i : ℕ) → i < lanes job → entryIs HO (laneAt p i .entry) ≡ eqb i o) →
+      (placedLanes job HO p ≡ 1) × (placedSum q job p ≡ pos 20 *ℤ laneEffect q job HO o +ℤ setSum (lanes job) (laneEffect q job HN) s)
   placed-overload o l one =
       let n = lanes job in
       let ho : ℕ → ℤ = laneEffect q job HO in

@@ -50,7 +50,9 @@ set-bit (suc n) test i h = pick (eq-or-lt-of-le (le-of-suc-le-suc h)) (set-bit n
     pick (inl e) less = rw e (ap (λ (z : ℕ). eqb (z % 2) 1) (high (if test n then 1 else 0) n (set-below n test)) ∙ own (test n))
     pick (inr l) less =
         let e : n - suc i + 1 + i ≡ n = omega arith in
-        ap (λ (z : ℕ). eqb z 1) (subst (λ (m : ℕ). setNumber n test < 2 ^ m → ((if test n then 1 else 0) * 2 ^ m + setNumber n test) / 2 ^ i % 2 ≡ setNumber n test / 2 ^ i % 2) e (lower (n - suc i) (if test n then 1 else 0) (setNumber n test)) (set-below n test))
+        let d : ℕ = if test n then 1 else 0 in
+        let r = setNumber n test in
+        ap (λ (z : ℕ). eqb z 1) (subst (λ (m : ℕ). r < 2 ^ m → (d * 2 ^ m + r) / 2 ^ i % 2 ≡ r / 2 ^ i % 2) e (lower (n - suc i) d r) (set-below n test))
         ∙ less l
 
 -- its ones are those that pass

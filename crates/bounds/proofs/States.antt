@@ -219,7 +219,8 @@ module _ (q : Question) (job : Job) (limit : Limit) (g : Governs) (is-value : st
       under r out (pos 0) of may (subst (λ (x : ℤ). NoBetter q x (better q (pos 0) (pos f *ℤ t))) (solve 1 (λ f. lit 0 ≐ f ⊗ lit 0) tt (pos f)) (better-left q (pos 0) (pos f *ℤ t)))
 
   -- nor with any arrangement of the row's live kind
-  pub unbeaten-laden : OneSigned (job .line) → zero < job .deck .g → (r : ℕ) (out : ℕ → Bool) (k : ℕ) (w : Arrangement) → RowOf job limit r → MayOmit (job .effect) (job .row r .chain) out → Lawful job (job .row r .live) k w →
+  pub unbeaten-laden : OneSigned (job .line) → zero < job .deck .g →
+      (r : ℕ) (out : ℕ → Bool) (k : ℕ) (w : Arrangement) → RowOf job limit r → MayOmit (job .effect) (job .row r .chain) out → Lawful job (job .row r .live) k w →
       NoBetter q (rowValue (job .effect) (job .row r) out (arranged q job k w)) (g .value)
   unbeaten-laden signed g-pos r out k w of may law =
       let f = job .row r .factor in

@@ -143,7 +143,8 @@ module _ (q : Question) (job : Job) (live : Live) (k : ℕ) (a : Arrangement) (s
   sum-bound =
       let n = pos (lanes job) in
       let r = reduction (lanesUnder job HN a) in
-      let turn : (m s t : ℤ) → pos 20 *ℤ (m *ℤ s) +ℤ r *ℤ (m *ℤ t) ≡ m *ℤ (pos 20 *ℤ s +ℤ r *ℤ t) = λ m s t. solve 4 (λ m s t r. lit 20 ⊗ (m ⊗ s) ⊕ r ⊗ (m ⊗ t) ≐ m ⊗ (lit 20 ⊗ s ⊕ r ⊗ t)) tt m s t r in
+      let turn : (m s t : ℤ) → pos 20 *ℤ (m *ℤ s) +ℤ r *ℤ (m *ℤ t) ≡ m *ℤ (pos 20 *ℤ s +ℤ r *ℤ t) =
+      λ m s t. solve 4 (λ m s t r. lit 20 ⊗ (m ⊗ s) ⊕ r ⊗ (m ⊗ t) ≐ m ⊗ (lit 20 ⊗ s ⊕ r ⊗ t)) tt m s t r in
       subst (λ (x : ℤ). NoBetter q x (pos c *ℤ bestOf q job a)) (turn n (sumUnder job k HO a) (sumUnder job k HN a))
       (subst (NoBetter q (pos 20 *ℤ (n *ℤ sumUnder job k HO a) +ℤ r *ℤ (n *ℤ sumUnder job k HN a))) (turn (pos c) (bestUnder q job HO a) (bestUnder q job HN a))
       (no-better-add q _ _ _ _ (no-better-scale q 20 _ _ (kind-bound HO)) (no-better-mul q r _ _ (reduction-nonneg (lanesUnder job HN a)) (kind-bound HN))))

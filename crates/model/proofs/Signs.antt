@@ -190,7 +190,9 @@ some-lane w =
 -- without traffic the value is 0
 pub no-traffic : (q : Question) (job : Job) → trafficValue q job noTraffic ≡ pos 0
 unfolding trafficValue effectOf bestSum
-no-traffic q job = ap (λ (x : ℤ). rounded q (pos 3 *ℤ x) (800000 * transverseUnit (job .deck) (lanes job))) (solve 1 (λ y. y ⊗ lit 0 ≐ lit 0) tt (pos (job .dynamic q))) ∙ rounded-zero q (800000 * transverseUnit (job .deck) (lanes job))
+no-traffic q job =
+    let d = 800000 * transverseUnit (job .deck) (lanes job) in
+    ap (λ (x : ℤ). rounded q (pos 3 *ℤ x) d) (solve 1 (λ y. y ⊗ lit 0 ≐ lit 0) tt (pos (job .dynamic q))) ∙ rounded-zero q d
 
 -- 0 beats no traffic value
 pub traffic-zero : (q : Question) (job : Job) (live : Live) → zero < job .deck .g → NoBetter q (pos 0) (trafficValue q job live)
