@@ -31,7 +31,8 @@ use Rattle.model.specs.declared.Entry.the-variants.{Unloaded, Hn, Ho}
 use Rattle.model.specs.declared.Placement.{Placement}
 use Rattle.model.specs.declared.Governing.{Governing}
 use Rattle.model.specs.declared.Account.{Account}
-use Rattle.model.proofs.Signs.{some-lane, traffic-zero, no-traffic, multiple-zero}
+use Rattle.model.proofs.Accepted.{lane-count}
+use Rattle.model.proofs.Signs.{traffic-zero, no-traffic, multiple-zero}
 use Rattle.bounds.proofs.Pair.{pair-at}
 use Rattle.bounds.proofs.Uniform.{loaded-parts-given}
 use Rattle.bounds.proofs.Sets.{ones-count}
@@ -57,7 +58,7 @@ attains q job live w g-pos each best =
     y = job .dynamic q
 
     n-pos : zero < n
-    n-pos = some-lane (job .deck .width)
+    n-pos = lane-count (job .deck .width) .0
 
     lane : (kind : Kind) (i : ℕ) (t : Bool) → (t ≡ true → loadEffect job n (w i) ≡ pos (n * n) *ℤ laneEffect q job kind i) →
         (if t then loadEffect job n (w i) else pos 0) ≡ pos (n * n) *ℤ (if t then laneEffect q job kind i else pos 0)
@@ -130,7 +131,7 @@ module _ (q : Question) (job : Job) (patch rest : List ℕ) (a : Account) (bytes
       let line = job .line in
       let at = positionOf a sense in
       ap₂ _+ℤ_ (loaded-parts-given line sense n (reportedElement job patch a kind sense centre) patch (λ i h. ap (λ (l : List ℕ). getD l i 0) bytes ∙ patch-byte line rest i h) (λ i j. refl))
-      (ap (λ (x : ℤ). axle kind *ℤ (pos n *ℤ x)) (pair-at line n (at .station) (at .side) (some-lane (job .deck .width)) ∙ ap (λ (x : ℤ). pos n *ℤ x) (positions sense .best)))
+      (ap (λ (x : ℤ). axle kind *ℤ (pos n *ℤ x)) (pair-at line n (at .station) (at .side) (lane-count (job .deck .width) .0) ∙ ap (λ (x : ℤ). pos n *ℤ x) (positions sense .best)))
       ∙ solve 4 (λ k u a m. k ⊗ k ⊗ u ⊕ a ⊗ (k ⊗ (k ⊗ m)) ≐ k ⊗ k ⊗ (u ⊕ a ⊗ m)) tt (pos n) (uniformPart line sense) (axle kind) (bestPair line sense)
 
   -- so at a best centre it gives the lane's best
@@ -147,7 +148,7 @@ module _ (q : Question) (job : Job) (patch rest : List ℕ) (a : Account) (bytes
   centre-fits kind sense i centre at =
       let l = at .low in
       let h = at .high in
-      let p = some-lane (job .deck .width) in
+      let p = lane-count (job .deck .width) .0 in
       record { fromLeft = mul-le-mul-left n l; fromRight = omega (arith, mul-add n centre (150 * n), mul-le-mul-left {m = centre + 150 * n} {n = suc i * job .deck .width} n (omega arith)) }
 
   module _ (p : Placement) (entries : (i : ℕ) → i < lanes job → EntryRight q job i (laneAt p i .entry) (laneAt p i .centre)) where
@@ -167,7 +168,7 @@ module _ (q : Question) (job : Job) (patch rest : List ℕ) (a : Account) (bytes
     pub reported-lawful : (live : Live) → OverloadLanes live (placedLanes job HO p) → Lawful job live n (reported job patch a p)
     unfolding reported
     reported-lawful live kinds = record {
-      fine = some-lane (job .deck .width);
+      fine = lane-count (job .deck .width) .0;
       kinds = subst (OverloadLanes live) (count-cong n _ _ (λ i h. sym (carries-entry HO i))) kinds;
       centres = λ i e h is. go i (laneAt p i .entry) (laneAt p i .centre) (entries i h) e is;
     }

@@ -26,8 +26,8 @@ use Rattle.model.specs.Line.{Kind, HN, HO}
 use Rattle.model.specs.Lanes.{reduction, without}
 use Rattle.model.specs.Traffic.{lanes, laneEffect, setSum, bestNormal, bestOverload, bestSum, effectOf, trafficValue}
 use Rattle.model.specs.Arrangements.{Element, Load, unloaded, element, Arrangement, elementEffect, carries, loadEffect, lanesUnder, sumUnder, sumOf, arranged, OverloadLanes, Lawful}
-use Rattle.model.proofs.Accepted.{OneSigned, accepted-signed, accepted-spaced}
-use Rattle.model.proofs.Signs.{some-lane, either}
+use Rattle.model.proofs.Accepted.{lane-count, OneSigned, accepted-signed, accepted-spaced}
+use Rattle.model.proofs.Signs.{either}
 use Rattle.bounds.proofs.Centre.{lane-bound}
 use Rattle.bounds.proofs.Sets.{setNumber, set-below, set-bit, set-sum}
 
@@ -159,7 +159,7 @@ module _ (q : Question) (job : Job) (live : Live) (k : ℕ) (a : Arrangement) (s
       let k-pos = law .fine in
       let some : zero < 800000 = omega arith in
       rounded-cross q (pos 3 *ℤ (pos y *ℤ sumOf job k a)) (pos 3 *ℤ (pos y *ℤ bestSum q job live)) (800000 * (k * k * (k * g))) (800000 * (n * g))
-      (mul-pos some (mul-pos (mul-pos k-pos k-pos) (mul-pos k-pos g-pos))) (mul-pos some (mul-pos (some-lane (job .deck .width)) g-pos))
+      (mul-pos some (mul-pos (mul-pos k-pos k-pos) (mul-pos k-pos g-pos))) (mul-pos some (mul-pos (lane-count (job .deck .width) .0) g-pos))
       (subst (λ (x : ℤ). NoBetter q x (pos (800000 * (k * k * (k * g))) *ℤ (pos 3 *ℤ (pos y *ℤ bestSum q job live))))
       (solve 5 (λ m n g y s. m ⊗ g ⊗ (lit 3 ⊗ y) ⊗ (n ⊗ s) ≐ m ⊗ (n ⊗ g) ⊗ (lit 3 ⊗ (y ⊗ s))) tt (pos 800000) (pos n) (pos g) (pos y) (sumOf job k a))
       (subst (NoBetter q (pos (800000 * g * (3 * y)) *ℤ (pos n *ℤ sumOf job k a)))
