@@ -31,7 +31,7 @@ use Rattle.model.specs.declared.Entry.the-variants.{Unloaded, Hn, Ho}
 use Rattle.model.specs.declared.Placement.{Placement}
 use Rattle.model.specs.declared.Governing.{Governing}
 use Rattle.model.specs.declared.Account.{Account}
-use Rattle.model.proofs.Accepted.{lane-count}
+use Rattle.model.proofs.Lanes.{lane-count}
 use Rattle.model.proofs.Signs.{traffic-zero, no-traffic, multiple-zero}
 use Rattle.bounds.proofs.Pair.{pair-at}
 use Rattle.bounds.proofs.Uniform.{loaded-parts-given}

@@ -18,7 +18,8 @@ use Rattle.model.specs.Lanes.{lanesOf, lowest, highest, transverseAt, bestOrdin
 use Rattle.model.specs.Traffic.{lanes, bestInLane, laneEffect}
 use Rattle.model.specs.Arrangements.{Element, elementLine, elementEffect}
 use Rattle.model.specs.declared.Sense.the-variants.{Raising, Lowering}
-use Rattle.model.proofs.Accepted.{lane-count, OneSigned}
+use Rattle.model.proofs.Lanes.{lane-count}
+use Rattle.model.proofs.Accepted.{OneSigned}
 use Rattle.model.proofs.Signs.{between-products}
 use Rattle.bounds.proofs.Uniform.{line-bound}
 

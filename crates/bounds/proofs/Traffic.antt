@@ -26,8 +26,9 @@ use Rattle.model.specs.Line.{Kind, HN, HO}
 use Rattle.model.specs.Lanes.{reduction, without}
 use Rattle.model.specs.Traffic.{lanes, laneEffect, setSum, bestNormal, bestOverload, bestSum, effectOf, trafficValue}
 use Rattle.model.specs.Arrangements.{Element, Load, unloaded, element, Arrangement, elementEffect, carries, loadEffect, lanesUnder, sumUnder, sumOf, arranged, OverloadLanes, Lawful}
-use Rattle.model.proofs.Accepted.{lane-count, OneSigned, accepted-signed, accepted-spaced}
-use Rattle.model.proofs.Signs.{either}
+use Rattle.model.proofs.Lanes.{lane-count}
+use Rattle.model.proofs.Accepted.{OneSigned, accepted-signed, accepted-spaced}
+use Rattle.bounds.proofs.Uniform.{either}
 use Rattle.bounds.proofs.Centre.{lane-bound}
 use Rattle.bounds.proofs.Sets.{setNumber, set-below, set-bit, set-sum}
 

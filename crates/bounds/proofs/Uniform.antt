@@ -22,8 +22,13 @@ use Rattle.model.specs.Line.{axle, uniform, along, endSum, patchByte, loadedByt
 use Rattle.model.specs.Arrangements.{Element, loadedParts, elementLine}
 use Rattle.model.specs.declared.Sense.{Sense}
 use Rattle.model.proofs.Accepted.{Sided, above, below, OneSigned}
-use Rattle.model.proofs.Signs.{loaded-bound, multiple-zero, axle-scale, either}
+use Rattle.model.proofs.Signs.{loaded-bound, multiple-zero, axle-scale}
 use Rattle.bounds.proofs.Pair.{pair-bound}
+
+-- what both branches have, the choice has
+pub either : {A : Type 0} (P : A → Type 0) (t : Bool) (x y : A) → P x → P y → P (if t then x else y)
+either P true x y h k = h
+either P false x y h k = k
 
 -- ---- the k-ths of a piece
 module _ (k : ℕ) (p : Piece) where

@@ -4,15 +4,14 @@ use mathlib.Core.Logic.{_⊎_, inl, inr}
 use mathlib.Core.Bool.{Bool, true, false, not, _&&_, _||_, true≢false, false≢true, and-eq-true-iff}
 use mathlib.Core.Option.{Option, none, some, Option·some-ne-none}
 use mathlib.Core.List.{List, [], _∷_}
-use Prim.Native.Nat.{ℕ, suc, _+_, _-_, _*_, _/_, _%_, _≤_, _<_}
-use native.Mathlib.Nat.{suc-mul, mul-pos, mul-assoc, mul-comm, mul-le-mul-left, mul-le-mul-right, mod-lt, div-add-mod, div-lt-iff-lt-mul}
+use Prim.Native.Nat.{ℕ, _+_, _-_, _*_, _/_, _%_, _≤_, _<_}
 use native.Mathlib.Omega.{arith}
-use lib.Dec.{eqb, leb, ltb}
+use lib.Dec.{eqb, leb}
 use lib.IntN.{ℤ, pos, negsuc, negℤ, _*ℤ_}
 use lib.ListN.{length, getD, take, drop}
 use lib.Seq.{getD-take, getD-drop}
 use lib.Signed.{_≤ℤ_, ltZ, leZ}
-use borrow.Author.Tests.{eqb-true, leb-true, ltb-true, ltb-false, not-false}
+use borrow.Author.Tests.{eqb-true, leb-true, not-false}
 use Rattle.exact.specs.Bounds.{Within}
 use Rattle.exact.specs.Choice.{if_then_else_, between, orElse}
 use Rattle.exact.specs.Parts.{up}
@@ -22,9 +21,8 @@ use Rattle.exact.proofs.Order.{lt→le}
 use Rattle.exact.proofs.Ranges.{first-none}
 use Rattle.exact.proofs.Tests.{ltZ-true, ltZ-false, leZ-true}
 use Rattle.model.specs.Words.{byteAt, wordAt, countAt}
-use Rattle.model.specs.Sections.{pieceLength, pieceCount, effectCount, rowCount, recordCount, lineWords, transverseWords, effectWords, rowWords, recordWords, lineStart, transverseStart, effectsStart, rowsStart, recordsStart, wordsDue, spaces, sectionOf, lineSection, transverseSection, effectSection, rowSection, recordSection}
-use Rattle.model.specs.Job.{Piece, InfluenceLine, Carriageway}
-use Rattle.model.specs.Lanes.{laneCount, lanesOf, lowest, highest, transverseUnit}
+use Rattle.model.specs.Sections.{pieceLength, pieceCount, effectCount, rowCount, recordCount, lineWords, transverseWords, effectWords, rowWords, recordWords, lineStart, transverseStart, effectsStart, rowsStart, recordsStart, wordsDue, sectionOf, lineSection, transverseSection, effectSection, rowSection, recordSection}
+use Rattle.model.specs.Job.{Piece, InfluenceLine}
 use Rattle.model.specs.Dynamic.{dynamicFactor}
 use Rattle.model.specs.Decode.{decode}
 use Rattle.model.specs.Refusals.{Refusal, unless, sized, is, oneOf, dynamicFits, headerTests, crosses, itemPlace, effectFits, rowFits, recordFits, chainReturns, chainNamesTwice, fault1, fault2, fault3, fault4, fault5, fault6, fault7, fault8, fault9, refuse, verdict}
@@ -368,51 +366,6 @@ chain-clear b e f i h =
 pub patch-fits : (b : List ℕ) (patch : ℕ) → fault9 b patch ≡ none → pieceCount b ≤ patch
 unfolding fault9
 patch-fits b patch e = leb-true (pieceCount b) patch (unless-none _ (pieceCount b) e)
-
--- ---- lanes
--- what holds of each number of lanes, where the width calls for it, holds of the lane count
-pub lane-cases : (w : ℕ) (P : ℕ → Type 0) → (w < 600 → P 1) → (600 ≤ w → P 2) → (970 ≤ w → P 3) → (1340 ≤ w → P 4) → (1710 ≤ w → P 5) → P (laneCount w)
-unfolding laneCount
-lane-cases w P one two three four five =
-    let from4 : ℕ = if ltb w 1710 then 4 else 5 in
-    let from3 : ℕ = if ltb w 1340 then 3 else from4 in
-    let from2 : ℕ = if ltb w 970 then 2 else from3 in
-    by-test (ltb w 600) (λ t. P (if t then 1 else from2)) (λ t. one (ltb-true w 600 t)) (λ t.
-    let h = ltb-false w 600 t in
-    by-test (ltb w 970) (λ t. P (if t then 2 else from3)) (λ _. two h) (λ t.
-    let h = ltb-false w 970 t in
-    by-test (ltb w 1340) (λ t. P (if t then 3 else from4)) (λ _. three h) (λ t.
-    let h = ltb-false w 1340 t in
-    by-test (ltb w 1710) (λ t. P (if t then 4 else 5)) (λ _. four h) (λ t. five (ltb-false w 1710 t)))))
-
--- a carriageway has one to five lanes
-pub lane-count : (w : ℕ) → (0 < laneCount w) × (laneCount w ≤ 5)
-lane-count w = lane-cases w (λ n. (0 < n) × (n ≤ 5)) (λ _. omega arith) (λ _. omega arith) (λ _. omega arith) (λ _. omega arith) (λ _. omega arith)
-
--- each at least 300 cm wide
-pub lane-room : (w : ℕ) → 300 ≤ w → 300 * laneCount w ≤ w
-lane-room w h = lane-cases w (λ n. 300 * n ≤ w) (λ l. h) (λ l. l) (λ l. omega arith) (λ l. omega arith) (λ l. omega arith)
-
--- so a lane has room for a centre
-pub centre-room : (deck : Carriageway) (i : ℕ) → 300 ≤ deck .width → lowest deck i ≤ highest deck i
-centre-room deck i h = omega (arith, lane-room (deck .width) h, suc-mul i (deck .width))
-
--- the transverse ordinates reach from kerb to kerb
-pub spaces-cover : (w g : ℕ) → 0 < g → w ≤ g * spaces w g
-spaces-cover w g h = let m = mod-lt (w + g - 1) h in omega (arith, div-add-mod (w + g - 1) g)
-
--- so both ordinates about a centre are among them
-pub centre-ordinate : (deck : Carriageway) (i centre : ℕ) → 0 < deck .g → i < lanesOf deck → lowest deck i ≤ centre → centre ≤ highest deck i →
-    centre / transverseUnit deck (lanesOf deck) < spaces (deck .width) (deck .g)
-centre-ordinate deck i centre g-pos h low high =
-    let n = lanesOf deck in
-    let w = deck .width in
-    let g = deck .g in
-    let n-pos = lane-count w .0 in
-    let kerb : suc i * w ≤ n * w = mul-le-mul-right w h in
-    let reach : n * w ≤ n * (g * spaces w g) = mul-le-mul-left n (spaces-cover w g g-pos) in
-    let turn : n * (g * spaces w g) ≡ spaces w g * (n * g) = sym (mul-assoc n g (spaces w g)) ∙ mul-comm (n * g) (spaces w g) in
-    div-lt-iff-lt-mul (mul-pos n-pos g-pos) .1 (omega arith)
 
 -- ---- the decoded job
 module _ (b : List ℕ) (patch : ℕ) (accepted : verdict b patch ≡ none) where

@@ -34,7 +34,8 @@ use Rattle.model.specs.declared.Side.{Side}
 use Rattle.model.specs.declared.Side.the-variants.{Left, Right}
 use Rattle.model.specs.declared.Sense.{Sense}
 use Rattle.model.specs.declared.Sense.the-variants.{Raising, Lowering}
-use Rattle.model.proofs.Accepted.{lane-count, accepted-spaced}
+use Rattle.model.proofs.Accepted.{accepted-spaced}
+use Rattle.model.proofs.Lanes.{lane-count}
 
 -- ---- the pair
 -- at and past the line's right end the ordinate is 0, from the left only past it
@@ -174,11 +175,6 @@ rounded-zero : (q : Question) (d : ℕ) → rounded q (pos 0) d ≡ pos 0
 unfolding floorDiv ceilDiv
 rounded-zero Greatest d = rw (zero-div d) refl
 rounded-zero Least d = rw (zero-div d) refl
-
--- what both branches have, the choice has
-pub either : {A : Type 0} (P : A → Type 0) (t : Bool) (x y : A) → P x → P y → P (if t then x else y)
-either P true x y h k = h
-either P false x y h k = k
 
 -- without traffic the value is 0
 pub no-traffic : (q : Question) (job : Job) → trafficValue q job noTraffic ≡ pos 0
