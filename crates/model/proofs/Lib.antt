@@ -3,4 +3,12 @@ pub mod Pigeonhole
 pub mod Chains
 pub mod Determined
 pub mod Accepted
+pub mod Lanes
 pub mod Signs
+pub mod Pair
+pub mod Uniform
+pub mod Centre
+pub mod Sets
+pub mod Unbeaten
+pub mod States
+pub mod Attained

@@ -8,7 +8,7 @@ use Prim.Native.Nat.{ℕ, zero, suc, _+_, _-_, _*_, _^_, _≤_, _<_}
 use native.Mathlib.Nat.{div-one, zero-div, mul-pos}
 use native.Mathlib.Omega.{arith}
 use lib.Count.{ones}
-use lib.Dec.{ltb, eqb}
+use lib.Dec.{eqb}
 use lib.IntN.{ℤ, pos, _+ℤ_, _*ℤ_}
 use lib.Signed.{_≤ℤ_, ltZ}
 use borrow.Author.Tests.{le-ltb}
@@ -28,13 +28,14 @@ use Rattle.model.specs.Job.{Piece, InfluenceLine, Job, Live, noTraffic, 
 use Rattle.model.specs.Decode.{decode}
 use Rattle.model.specs.Refusals.{verdict}
 use Rattle.model.specs.Line.{Kind, HN, HO, axle, axleSpacing, ordinate, pair, endSum, patchByte, loadedByte, sought, loadedSum, uniformPart, station, bestPair, lineEffect}
-use Rattle.model.specs.Lanes.{laneCount, lanesOf, reduction, lowest, highest, transverseUnit, transverseAt, without}
+use Rattle.model.specs.Lanes.{lanesOf, reduction, lowest, highest, transverseUnit, transverseAt, without}
 use Rattle.model.specs.Traffic.{lanes, bestInLane, laneEffect, setSum, bestNormal, bestOverload, bestSum, effectOf, trafficValue}
 use Rattle.model.specs.declared.Side.{Side}
 use Rattle.model.specs.declared.Side.the-variants.{Left, Right}
 use Rattle.model.specs.declared.Sense.{Sense}
 use Rattle.model.specs.declared.Sense.the-variants.{Raising, Lowering}
 use Rattle.model.proofs.Accepted.{accepted-spaced}
+use Rattle.model.proofs.Lanes.{lane-count}
 
 -- ---- the pair
 -- at and past the line's right end the ordinate is 0, from the left only past it
@@ -106,8 +107,8 @@ uniform-zero line sense =
 -- ---- an element
 -- an axle's load is not negative
 pub axle-scale : (q : Question) (kind : Kind) (x v : ℤ) → NoBetter q x v → NoBetter q (axle kind *ℤ x) (axle kind *ℤ v)
-axle-scale q HN x v h = no-better-scale q 1600 x v h
-axle-scale q HO x v h = no-better-scale q 3200 x v h
+axle-scale q HN x v h = no-better-scale q _ x v h
+axle-scale q HO x v h = no-better-scale q _ x v h
 
 -- a sense's line effect is not beaten by no load
 pub line-zero : (line : InfluenceLine) (kind : Kind) (sense : Sense) → NoBetter (sought sense) (pos 0) (lineEffect line kind sense)
@@ -175,22 +176,12 @@ unfolding floorDiv ceilDiv
 rounded-zero Greatest d = rw (zero-div d) refl
 rounded-zero Least d = rw (zero-div d) refl
 
--- what both branches have, the choice has
-pub either : {A : Type 0} (P : A → Type 0) (t : Bool) (x y : A) → P x → P y → P (if t then x else y)
-either P true x y h k = h
-either P false x y h k = k
-
--- every carriageway has a lane
-pub some-lane : (w : ℕ) → zero < laneCount w
-unfolding laneCount
-some-lane w =
-    let P : ℕ → Type 0 = λ n. zero < n in
-    either P (ltb w 600) _ _ (omega arith) (either P (ltb w 970) _ _ (omega arith) (either P (ltb w 1340) _ _ (omega arith) (either P (ltb w 1710) _ _ (omega arith) (omega arith))))
-
 -- without traffic the value is 0
 pub no-traffic : (q : Question) (job : Job) → trafficValue q job noTraffic ≡ pos 0
 unfolding trafficValue effectOf bestSum
-no-traffic q job = ap (λ (x : ℤ). rounded q (pos 3 *ℤ x) (800000 * transverseUnit (job .deck) (lanes job))) (solve 1 (λ y. y ⊗ lit 0 ≐ lit 0) tt (pos (job .dynamic q))) ∙ rounded-zero q (800000 * transverseUnit (job .deck) (lanes job))
+no-traffic q job =
+    let d = 800000 * transverseUnit (job .deck) (lanes job) in
+    ap (λ (x : ℤ). rounded q (pos 3 *ℤ x) d) (solve 1 (λ y. y ⊗ lit 0 ≐ lit 0) tt (pos (job .dynamic q))) ∙ rounded-zero q d
 
 -- 0 beats no traffic value
 pub traffic-zero : (q : Question) (job : Job) (live : Live) → zero < job .deck .g → NoBetter q (pos 0) (trafficValue q job live)
@@ -199,7 +190,7 @@ traffic-zero q job live g =
     let d = transverseUnit (job .deck) (lanes job) in
     let x = bestSum q job live in
     subst (λ (z : ℤ). NoBetter q z (trafficValue q job live)) (rounded-zero q (800000 * d))
-    (rounded-mono q (pos 0) (pos 3 *ℤ (pos (job .dynamic q) *ℤ x)) (800000 * d) (mul-pos (omega arith) (mul-pos (some-lane (job .deck .width)) g))
+    (rounded-mono q (pos 0) (pos 3 *ℤ (pos (job .dynamic q) *ℤ x)) (800000 * d) (mul-pos (omega arith) (mul-pos (lane-count (job .deck .width) .0) g))
     (multiple-zero q 3 _ (multiple-zero q (job .dynamic q) x (sum-zero-bound q job live))))
 
 -- so of an accepted job no greatest traffic value is below 0, and no least above

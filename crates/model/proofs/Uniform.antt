@@ -17,13 +17,18 @@ use Rattle.exact.specs.declared.Question.the-variants.{Greatest, Least}
 use Rattle.exact.proofs.Exact.{_⊕_, _⊗_, _⊝_, lit, _≐_, solve}
 use Rattle.exact.proofs.Extremes.{no-better-refl, no-better-trans, no-better-add, no-better-scale, no-better-between}
 use Rattle.exact.proofs.Ranges.{sum-cong, sum-mono, sum-scale, sum-zero}
 use Rattle.model.specs.Job.{Piece, InfluenceLine}
 use Rattle.model.specs.Line.{axle, uniform, along, endSum, patchByte, loadedByte, sought, loadedSum, uniformPart, bestPair, lineEffect}
 use Rattle.model.specs.Arrangements.{Element, loadedParts, elementLine}
 use Rattle.model.specs.declared.Sense.{Sense}
 use Rattle.model.proofs.Accepted.{Sided, above, below, OneSigned}
-use Rattle.model.proofs.Signs.{loaded-bound, multiple-zero, axle-scale, either}
-use Rattle.bounds.proofs.Pair.{pair-bound}
+use Rattle.model.proofs.Signs.{loaded-bound, multiple-zero, axle-scale}
+use Rattle.model.proofs.Pair.{pair-bound}
+
+-- what both branches have, the choice has
+pub either : {A : Type 0} (P : A → Type 0) (t : Bool) (x y : A) → P x → P y → P (if t then x else y)
+either P true x y h k = h
+either P false x y h k = k
 
 -- ---- the k-ths of a piece
 module _ (k : ℕ) (p : Piece) where

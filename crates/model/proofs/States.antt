@@ -13,14 +13,14 @@ use Rattle.exact.specs.declared.Question.{Question}
 use Rattle.exact.proofs.Bridge.{by-test}
 use Rattle.exact.proofs.Exact.{_⊗_, lit, _≐_, solve}
 use Rattle.exact.proofs.Extremes.{no-better-refl, no-better-trans, no-better-antisym, no-better-add, no-better-scale, better-left, better-right, better-least, beats-yes, beats-no}
 use Rattle.model.specs.Job.{Effect, Term, Row, Limit, service, ultimate, Live, Job}
 use Rattle.model.specs.Traffic.{trafficValue}
 use Rattle.model.specs.Rows.{share, chainValue, rowValue, MayOmit, bestChain, bestRow, Governs, laterIfBetter, isOf, governing, stateValue}
 use Rattle.model.specs.Arrangements.{Arrangement, arranged, Lawful}
 use Rattle.model.specs.Answered.{RowOf}
 use Rattle.model.proofs.Accepted.{OneSigned}
 use Rattle.model.proofs.Signs.{multiple-zero}
-use Rattle.bounds.proofs.Traffic.{unbeaten}
+use Rattle.model.proofs.Unbeaten.{unbeaten}
 
 -- ---- a row
 module _ (q : Question) (effect : ℕ → Effect) where
@@ -219,7 +219,8 @@ module _ (q : Question) (job : Job) (limit : Limit) (g : Governs) (is-value : st
       under r out (pos 0) of may (subst (λ (x : ℤ). NoBetter q x (better q (pos 0) (pos f *ℤ t))) (solve 1 (λ f. lit 0 ≐ f ⊗ lit 0) tt (pos f)) (better-left q (pos 0) (pos f *ℤ t)))
 
   -- nor with any arrangement of the row's live kind
-  pub unbeaten-laden : OneSigned (job .line) → zero < job .deck .g → (r : ℕ) (out : ℕ → Bool) (k : ℕ) (w : Arrangement) → RowOf job limit r → MayOmit (job .effect) (job .row r .chain) out → Lawful job (job .row r .live) k w →
+  pub unbeaten-laden : OneSigned (job .line) → zero < job .deck .g →
+      (r : ℕ) (out : ℕ → Bool) (k : ℕ) (w : Arrangement) → RowOf job limit r → MayOmit (job .effect) (job .row r .chain) out → Lawful job (job .row r .live) k w →
       NoBetter q (rowValue (job .effect) (job .row r) out (arranged q job k w)) (g .value)
   unbeaten-laden signed g-pos r out k w of may law =
       let f = job .row r .factor in

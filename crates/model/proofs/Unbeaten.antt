@@ -19,17 +19,18 @@ use Rattle.exact.proofs.Exact.{pos-nonneg, _⊕_, _⊗_, lit, _≐_, solve}
 use Rattle.exact.proofs.Extremes.{no-better-of-eq, no-better-trans, no-better-add, no-better-mul, no-better-scale, extreme-bounds}
 use Rattle.exact.proofs.Ranges.{sum-mono, sum-scale, sum-zero, sum-one, count-none, count-one}
 use Rattle.exact.proofs.Rounding.{rounded-cross}
 use Rattle.model.specs.Job.{Job, Live, noTraffic, normal, overload}
 use Rattle.model.specs.Decode.{decode}
 use Rattle.model.specs.Refusals.{verdict}
 use Rattle.model.specs.Line.{Kind, HN, HO}
 use Rattle.model.specs.Lanes.{reduction, without}
 use Rattle.model.specs.Traffic.{lanes, laneEffect, setSum, bestNormal, bestOverload, bestSum, effectOf, trafficValue}
 use Rattle.model.specs.Arrangements.{Element, Load, unloaded, element, Arrangement, elementEffect, carries, loadEffect, lanesUnder, sumUnder, sumOf, arranged, OverloadLanes, Lawful}
+use Rattle.model.proofs.Lanes.{lane-count}
 use Rattle.model.proofs.Accepted.{OneSigned, accepted-signed, accepted-spaced}
-use Rattle.model.proofs.Signs.{some-lane, either}
-use Rattle.bounds.proofs.Centre.{lane-bound}
-use Rattle.bounds.proofs.Sets.{setNumber, set-below, set-bit, set-sum}
+use Rattle.model.proofs.Uniform.{either}
+use Rattle.model.proofs.Centre.{lane-bound}
+use Rattle.model.proofs.Sets.{setNumber, set-below, set-bit, set-sum}
 
 -- r is not negative
 reduction-nonneg : (m : ℕ) → pos 0 ≤ℤ reduction m
@@ -143,7 +144,8 @@ module _ (q : Question) (job : Job) (live : Live) (k : ℕ) (a : Arrangement) (s
   sum-bound =
       let n = pos (lanes job) in
       let r = reduction (lanesUnder job HN a) in
-      let turn : (m s t : ℤ) → pos 20 *ℤ (m *ℤ s) +ℤ r *ℤ (m *ℤ t) ≡ m *ℤ (pos 20 *ℤ s +ℤ r *ℤ t) = λ m s t. solve 4 (λ m s t r. lit 20 ⊗ (m ⊗ s) ⊕ r ⊗ (m ⊗ t) ≐ m ⊗ (lit 20 ⊗ s ⊕ r ⊗ t)) tt m s t r in
+      let turn : (m s t : ℤ) → pos 20 *ℤ (m *ℤ s) +ℤ r *ℤ (m *ℤ t) ≡ m *ℤ (pos 20 *ℤ s +ℤ r *ℤ t) =
+      λ m s t. solve 4 (λ m s t r. lit 20 ⊗ (m ⊗ s) ⊕ r ⊗ (m ⊗ t) ≐ m ⊗ (lit 20 ⊗ s ⊕ r ⊗ t)) tt m s t r in
       subst (λ (x : ℤ). NoBetter q x (pos c *ℤ bestOf q job a)) (turn n (sumUnder job k HO a) (sumUnder job k HN a))
       (subst (NoBetter q (pos 20 *ℤ (n *ℤ sumUnder job k HO a) +ℤ r *ℤ (n *ℤ sumUnder job k HN a))) (turn (pos c) (bestUnder q job HO a) (bestUnder q job HN a))
       (no-better-add q _ _ _ _ (no-better-scale q 20 _ _ (kind-bound HO)) (no-better-mul q r _ _ (reduction-nonneg (lanesUnder job HN a)) (kind-bound HN))))
@@ -158,7 +160,7 @@ module _ (q : Question) (job : Job) (live : Live) (k : ℕ) (a : Arrangement) (s
       let k-pos = law .fine in
       let some : zero < 800000 = omega arith in
       rounded-cross q (pos 3 *ℤ (pos y *ℤ sumOf job k a)) (pos 3 *ℤ (pos y *ℤ bestSum q job live)) (800000 * (k * k * (k * g))) (800000 * (n * g))
-      (mul-pos some (mul-pos (mul-pos k-pos k-pos) (mul-pos k-pos g-pos))) (mul-pos some (mul-pos (some-lane (job .deck .width)) g-pos))
+      (mul-pos some (mul-pos (mul-pos k-pos k-pos) (mul-pos k-pos g-pos))) (mul-pos some (mul-pos (lane-count (job .deck .width) .0) g-pos))
       (subst (λ (x : ℤ). NoBetter q x (pos (800000 * (k * k * (k * g))) *ℤ (pos 3 *ℤ (pos y *ℤ bestSum q job live))))
       (solve 5 (λ m n g y s. m ⊗ g ⊗ (lit 3 ⊗ y) ⊗ (n ⊗ s) ≐ m ⊗ (n ⊗ g) ⊗ (lit 3 ⊗ (y ⊗ s))) tt (pos 800000) (pos n) (pos g) (pos y) (sumOf job k a))
       (subst (NoBetter q (pos (800000 * g * (3 * y)) *ℤ (pos n *ℤ sumOf job k a)))

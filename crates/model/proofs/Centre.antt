@@ -12,15 +12,16 @@ use Rattle.exact.specs.declared.Question.{Question}
 use Rattle.exact.specs.declared.Question.the-variants.{Greatest, Least}
 use Rattle.exact.proofs.Exact.{total, pos-mono, prod, _⊕_, _⊗_, _⊝_, lit, _≐_, _≼_, _⇒_, solve, linear}
 use Rattle.exact.proofs.Extremes.{no-better-trans, no-better-antisym, no-better-scale, no-better-cancel, better-left, better-right, better-ind, better-least, extreme-bounds, extreme-least, extreme-met}
 use Rattle.model.specs.Job.{Carriageway, Job}
 use Rattle.model.specs.Line.{lineEffect}
 use Rattle.model.specs.Lanes.{lanesOf, lowest, highest, transverseAt, bestOrdinate, CentreFits}
 use Rattle.model.specs.Traffic.{lanes, bestInLane, laneEffect}
 use Rattle.model.specs.Arrangements.{Element, elementLine, elementEffect}
 use Rattle.model.specs.declared.Sense.the-variants.{Raising, Lowering}
+use Rattle.model.proofs.Lanes.{lane-count}
 use Rattle.model.proofs.Accepted.{OneSigned}
-use Rattle.model.proofs.Signs.{some-lane, between-products}
-use Rattle.bounds.proofs.Uniform.{line-bound}
+use Rattle.model.proofs.Signs.{between-products}
+use Rattle.model.proofs.Uniform.{line-bound}
 
 -- ---- a line through ordinates t 0, t 1, .. one step apart
 -- r m-ths past ordinate c, times m
@@ -157,7 +158,7 @@ module _ (deck : Carriageway) (i : ℕ) (g-pos : zero < deck .g) where
   unfolding bestOrdinate transverseAt
   ordinate-bound q v h at-lo at-hi at-edge =
       extreme-least q (hi - lo) _ v (λ j l.
-      let n-pos = some-lane (deck .width) in
+      let n-pos = lane-count (deck .width) .0 in
       no-better-cancel q n _ v n-pos
       (subst (λ (z : ℤ). NoBetter q (pos n *ℤ z) (pos n *ℤ v)) (one (transverseAt deck n (lo + j)))
       (centre-bound q (deck .transverse) (deck .g) n n lo hi (lo + j) (pos 1) v g-pos n-pos n-pos (mul-le-mul-left n (omega arith)) (mul-le-mul-left n (omega arith))
@@ -177,7 +178,7 @@ module _ (deck : Carriageway) (i : ℕ) (g-pos : zero < deck .g) where
       let low : k * lo ≤ n * centre = fits .fromLeft in
       let high : n * centre ≤ k * hi = omega (arith, fits .fromRight, mul-sub k (suc i * deck .width) (150 * n)) in
       let order : lo ≤ hi = le-of-mul-le-mul-left (omega arith) k-pos in
-      centre-bound q (deck .transverse) (deck .g) n k lo hi centre L v g-pos (some-lane (deck .width)) k-pos low high
+      centre-bound q (deck .transverse) (deck .g) n k lo hi centre L v g-pos (lane-count (deck .width) .0) k-pos low high
       (known lo (omega arith) order) (known hi order (omega arith)) (λ c a b. known (n * deck .g * c) a b)
 
 -- either sense's line effect at a centre in n-ths of the lane does not beat the lane's best

@@ -18,25 +18,26 @@ use Rattle.exact.specs.declared.Question.{Question}
 use Rattle.exact.proofs.Exact.{_⊕_, _⊗_, lit, _≐_, solve}
 use Rattle.exact.proofs.Ranges.{sum-cong, sum-scale, sum-zero, sum-one, count-cong, length-listOf, getD-listOf}
 use Rattle.exact.proofs.Rounding.{rounded-scale}
 use Rattle.model.specs.Job.{InfluenceLine, Job, Limit, Live, noTraffic, normal, overload}
 use Rattle.model.specs.Line.{Kind, HN, HO, axle, bestPair, patchByte, patchBytes, uniformPart, lineEffect}
 use Rattle.model.specs.Lanes.{lowest, highest, reduction, transverseAt, bit, CentreFits}
 use Rattle.model.specs.Traffic.{lanes, laneEffect, setSum, bestSum, effectOf, trafficValue}
 use Rattle.model.specs.Rows.{rowValue, stateValue}
 use Rattle.model.specs.Arrangements.{Element, Load, unloaded, element, Arrangement, elementLine, elementEffect, carries, loadEffect, lanesUnder, sumUnder, sumOf, arranged, OverloadLanes, Lawful}
 use Rattle.model.specs.Answered.{laneAt, positionOf, reportedElement, reportedLoad, reported, reportedEffect, PositionRight, extremeOf, countedTraffic, omits}
 use Rattle.model.specs.declared.Sense.{Sense}
 use Rattle.model.specs.declared.Entry.{Entry}
 use Rattle.model.specs.declared.Entry.the-variants.{Unloaded, Hn, Ho}
 use Rattle.model.specs.declared.Placement.{Placement}
 use Rattle.model.specs.declared.Governing.{Governing}
 use Rattle.model.specs.declared.Account.{Account}
-use Rattle.model.proofs.Signs.{some-lane, traffic-zero, no-traffic, multiple-zero}
-use Rattle.bounds.proofs.Pair.{pair-at}
-use Rattle.bounds.proofs.Uniform.{loaded-parts-given}
-use Rattle.bounds.proofs.Sets.{ones-count}
-use Rattle.bounds.proofs.Traffic.{bestUnder, bestOf}
-use Rattle.bounds.proofs.States.{SuitsAll, row-attained, governing-row}
+use Rattle.model.proofs.Lanes.{lane-count}
+use Rattle.model.proofs.Signs.{traffic-zero, no-traffic, multiple-zero}
+use Rattle.model.proofs.Pair.{pair-at}
+use Rattle.model.proofs.Uniform.{loaded-parts-given}
+use Rattle.model.proofs.Sets.{ones-count}
+use Rattle.model.proofs.Unbeaten.{bestUnder, bestOf}
+use Rattle.model.proofs.States.{SuitsAll, row-attained, governing-row}
 
 -- ---- any arrangement
 -- one whose every lane gives the lane's best, and whose bests together are the best sum, gives the traffic value
@@ -57,9 +58,10 @@ attains q job live w g-pos each best =
     y = job .dynamic q
 
     n-pos : zero < n
-    n-pos = some-lane (job .deck .width)
+    n-pos = lane-count (job .deck .width) .0
 
-    lane : (kind : Kind) (i : ℕ) (t : Bool) → (t ≡ true → loadEffect job n (w i) ≡ pos (n * n) *ℤ laneEffect q job kind i) → (if t then loadEffect job n (w i) else pos 0) ≡ pos (n * n) *ℤ (if t then laneEffect q job kind i else pos 0)
+    lane : (kind : Kind) (i : ℕ) (t : Bool) → (t ≡ true → loadEffect job n (w i) ≡ pos (n * n) *ℤ laneEffect q job kind i) →
+        (if t then loadEffect job n (w i) else pos 0) ≡ pos (n * n) *ℤ (if t then laneEffect q job kind i else pos 0)
     lane kind i true h = h refl
     lane kind i false h = solve 1 (λ c. lit 0 ≐ c ⊗ lit 0) tt (pos (n * n))
 
@@ -129,7 +131,7 @@ module _ (q : Question) (job : Job) (patch rest : List ℕ) (a : Account) (bytes
       let line = job .line in
       let at = positionOf a sense in
       ap₂ _+ℤ_ (loaded-parts-given line sense n (reportedElement job patch a kind sense centre) patch (λ i h. ap (λ (l : List ℕ). getD l i 0) bytes ∙ patch-byte line rest i h) (λ i j. refl))
-      (ap (λ (x : ℤ). axle kind *ℤ (pos n *ℤ x)) (pair-at line n (at .station) (at .side) (some-lane (job .deck .width)) ∙ ap (λ (x : ℤ). pos n *ℤ x) (positions sense .best)))
+      (ap (λ (x : ℤ). axle kind *ℤ (pos n *ℤ x)) (pair-at line n (at .station) (at .side) (lane-count (job .deck .width) .0) ∙ ap (λ (x : ℤ). pos n *ℤ x) (positions sense .best)))
       ∙ solve 4 (λ k u a m. k ⊗ k ⊗ u ⊕ a ⊗ (k ⊗ (k ⊗ m)) ≐ k ⊗ k ⊗ (u ⊕ a ⊗ m)) tt (pos n) (uniformPart line sense) (axle kind) (bestPair line sense)
 
   -- so at a best centre it gives the lane's best
@@ -146,7 +148,7 @@ module _ (q : Question) (job : Job) (patch rest : List ℕ) (a : Account) (bytes
   centre-fits kind sense i centre at =
       let l = at .low in
       let h = at .high in
-      let p = some-lane (job .deck .width) in
+      let p = lane-count (job .deck .width) .0 in
       record { fromLeft = mul-le-mul-left n l; fromRight = omega (arith, mul-add n centre (150 * n), mul-le-mul-left {m = centre + 150 * n} {n = suc i * job .deck .width} n (omega arith)) }
 
   module _ (p : Placement) (entries : (i : ℕ) → i < lanes job → EntryRight q job i (laneAt p i .entry) (laneAt p i .centre)) where
@@ -166,7 +168,7 @@ module _ (q : Question) (job : Job) (patch rest : List ℕ) (a : Account) (bytes
     pub reported-lawful : (live : Live) → OverloadLanes live (placedLanes job HO p) → Lawful job live n (reported job patch a p)
     unfolding reported
     reported-lawful live kinds = record {
-      fine = some-lane (job .deck .width);
+      fine = lane-count (job .deck .width) .0;
       kinds = subst (OverloadLanes live) (count-cong n _ _ (λ i h. sym (carries-entry HO i))) kinds;
       centres = λ i e h is. go i (laneAt p i .entry) (laneAt p i .centre) (entries i h) e is;
     }
@@ -189,7 +191,8 @@ module _ (q : Question) (job : Job) (patch rest : List ℕ) (a : Account) (bytes
         same : (kind : Kind) → bestUnder q job kind (reported job patch a p) ≡ placedUnder q job kind p
         same kind = sum-cong n _ _ (λ i h. ap (λ (t : Bool). if t then laneEffect q job kind i else pos 0) (carries-entry kind i))
 
-        go : (kind : Kind) (i : ℕ) (entry : Entry) (centre : ℕ) → EntryRight q job i entry centre → entryIs kind entry ≡ true → loadEffect job n (reportedLoad job patch a entry centre) ≡ pos (n * n) *ℤ laneEffect q job kind i
+        go : (kind : Kind) (i : ℕ) (entry : Entry) (centre : ℕ) → EntryRight q job i entry centre → entryIs kind entry ≡ true →
+            loadEffect job n (reportedLoad job patch a entry centre) ≡ pos (n * n) *ℤ laneEffect q job kind i
         go kind i Unloaded centre r t = absurd (false≢true t)
         go HN i (Hn sense) centre r t = element-given HN sense i centre r
         go HN i (Ho sense) centre r t = absurd (false≢true t)
@@ -227,7 +230,8 @@ module _ (q : Question) (job : Job) (p : Placement) (s : ℕ) (small : s < 2 ^ l
   )
 
   -- with HO in lane o alone, that lane's HO too
-  pub placed-overload : (o : ℕ) → o < lanes job → ((i : ℕ) → i < lanes job → entryIs HO (laneAt p i .entry) ≡ eqb i o) → (placedLanes job HO p ≡ 1) × (placedSum q job p ≡ pos 20 *ℤ laneEffect q job HO o +ℤ setSum (lanes job) (laneEffect q job HN) s)
+  pub placed-overload : (o : ℕ) → o < lanes job → ((i : ℕ) → i < lanes job → entryIs HO (laneAt p i .entry) ≡ eqb i o) →
+      (placedLanes job HO p ≡ 1) × (placedSum q job p ≡ pos 20 *ℤ laneEffect q job HO o +ℤ setSum (lanes job) (laneEffect q job HN) s)
   placed-overload o l one =
       let n = lanes job in
       let ho : ℕ → ℤ = laneEffect q job HO in

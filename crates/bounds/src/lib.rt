@@ -1,1 +1,0 @@
-// No code: the mathematics of demand 3, over the definitions of crate model.
