@@ -8,7 +8,7 @@ use Prim.Native.Nat.{ℕ, _+_, _-_, _*_, _/_, _%_, _≤_, _<_}
 use native.Mathlib.Omega.{arith}
 use lib.Dec.{eqb, leb}
 use lib.IntN.{ℤ, pos, negsuc, negℤ, _*ℤ_}
-use lib.ListN.{length, getD, take, drop}
+use lib.ListN.{length, getD, take, drop, length-take, length-drop}
 use lib.Seq.{getD-take, getD-drop}
 use lib.Signed.{_≤ℤ_, ltZ, leZ}
 use borrow.Author.Tests.{eqb-true, leb-true, not-false}
@@ -74,6 +74,11 @@ clear b patch e =
     let r8 = refuse-none 8 (fault8 b) _ (r7 .1) in
     let r9 = refuse-none 9 (fault9 b patch) _ (r8 .1) in
     record { c1 = r1 .0; c2 = r2 .0; c3 = r3 .0; c4 = r4 .0; c5 = r5 .0; c6 = r6 .0; c7 = r7 .0; c8 = r8 .0; c9 = r9 .0 }
+
+-- a section that lies within the job has all its bytes
+pub section-length : (b : List ℕ) (start words : ℕ) → 4 * (start + words) ≤ length b → length (sectionOf b start words) ≡ 4 * words
+unfolding sectionOf
+section-length b start words h = simp (length-take, length-drop) (omega arith)
 
 -- ---- words
 -- a word of a section is the job's
