@@ -1,0 +1,66 @@
+// Chains in the record section: a record's words, whether a chain ends, whether it names an effect twice.
+ghost use mathlib.Core.Path.{_≡_};
+ghost use Prim.Native.Nat.{_*_, _≤_};
+ghost use lib.ListN.{length};
+ghost use lib.Dec.{eqb};
+ghost use Rattle.model.specs.Chains.{recordEffect, recordFactor, nextRecord, walk, namesTwice};
+ghost use Rattle.chains.specs.Linked.{Linked, EffectsTo};
+
+// Record c's effect.
+pub fn effect(records: &[u8], c: usize) -> usize
+    requires { ⌜ (1 ≤ c) × (12 * c ≤ length (now records)) ⌝ }
+    ensures { λ r. ⌜ (r ≡ recordEffect (now (records .entry)) c) × (r ≤ 2147483648) ⌝ }
+{
+    words::count(records, 3 * (c - 1))
+}
+
+// Record c's factor, in thousandths.
+pub fn factor(records: &[u8], c: usize) -> usize
+    requires { ⌜ (1 ≤ c) × (12 * c ≤ length (now records)) ⌝ }
+    ensures { λ r. ⌜ (r ≡ recordFactor (now (records .entry)) c) × (r ≤ 2147483648) ⌝ }
+{
+    words::count(records, 3 * (c - 1) + 1)
+}
+
+// The record after c on its chain; 0 ends it.
+pub fn next(records: &[u8], c: usize) -> usize
+    requires { ⌜ (1 ≤ c) × (12 * c ≤ length (now records)) ⌝ }
+    ensures { λ r. ⌜ (r ≡ nextRecord (now (records .entry)) c) × (r ≤ 2147483648) ⌝ }
+{
+    words::count(records, 3 * (c - 1) + 2)
+}
+
+// The chain from c ends within so many visits.
+pub fn ends(records: &[u8], c: usize, left: usize) -> bool
+    requires { ⌜ Linked (now records) × (12 * c ≤ length (now records)) ⌝ }
+    ensures { λ r. ⌜ r ≡ eqb (walk (now (records .entry)) c left) 0 ⌝ }
+{
+    if c == 0 {
+        return true;
+    }
+    if left == 0 {
+        return false;
+    }
+    ends(records, next(records, c), left - 1)
+}
+
+// Some two records of the chain from c name the same effect; the chain has at most so many records.
+pub fn names_twice(records: &[u8], c: usize, most: usize) -> bool
+    requires { ⌜ Linked (now records) × EffectsTo 16 (now records) × (12 * c ≤ length (now records)) × (walk (now records) c most ≡ 0) ⌝ }
+    ensures { λ r. ⌜ r ≡ namesTwice (now (records .entry)) most c ⌝ }
+{
+    let mut seen = [false; 17];
+    let mut at = c;
+    for _ in 0..most {
+        if at == 0 {
+            return false;
+        }
+        let e = effect(records, at);
+        if seen[e] {
+            return true;
+        }
+        seen[e] = true;
+        at = next(records, at);
+    }
+    false
+}
