@@ -1,0 +1,16 @@
+use mathlib.Core.Path.{refl}
+use lib.Dec.{lit<}
+use mir.Syntax.{w64}
+use Rattle.exact.proofs.Held.{any, lit, eq-yes}
+use Rattle.job.proofs.Tests.{is-failed}
+use Rattle.job.proofs.limits.live_limit.Statement.{statement}
+use Rattle.job.proofs.limits.live_limit.Tie as tie
+
+returns : tie.Need-returns
+returns c = rw (eq-yes (any (c .before .fits .kind)) (lit w64 0 (lit< tt)) (c .if1 .taken)) refl
+
+returns-2 : tie.Need-returns-2
+returns-2 c = rw (is-failed 0 (c .before .args .kind) (c .if1 .left)) refl
+
+pub live-limit-spec : {M : Type 1} → statement M
+live-limit-spec = tie.close (tie.spec returns returns-2)

@@ -1,0 +1,4 @@
+pub mod Header
+pub mod Limits
+pub mod Defects
+pub mod Rulings

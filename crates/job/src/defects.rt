@@ -1,0 +1,49 @@
+// The first row whose chain comes back to a record, or names an effect twice.
+ghost use mathlib.Core.Path.{_≡_};
+ghost use Prim.Native.Nat.{_*_, _≤_};
+ghost use mathlib.Core.Option.{none};
+ghost use lib.ListN.{length};
+ghost use Rattle.model.specs.Chains.{walk};
+ghost use Rattle.model.specs.Refusals.{fault6, fault7};
+ghost use Rattle.chains.specs.Linked.{Linked, EffectsTo};
+ghost use Rattle.job.specs.Header.{Sized};
+ghost use Rattle.job.specs.Limits.{placeOf};
+ghost use Rattle.job.specs.Defects.{Repeats, isDefective, firstDefective};
+use crate::header;
+use crate::header::Header;
+use crate::limits::Fault;
+use crate::sections;
+
+// What may be wrong with a chain.
+pub enum Defect {
+    Return,
+    Repeat,
+}
+
+// The chain from a first record, in a section of so many, has the defect.
+fn is_defective(records: &[u8], first: usize, count: usize, defect: Defect) -> bool
+    requires { ⌜ Linked (now records) × EffectsTo 16 (now records) × (12 * first ≤ length (now records)) × (Repeats defect → walk (now records) first count ≡ 0) ⌝ }
+    ensures { λ r. ⌜ r ≡ isDefective defect (now (records .entry)) first count ⌝ }
+{
+    match defect {
+        Defect::Return => !chains::ends(records, first, count),
+        Defect::Repeat => chains::names_twice(records, first, count),
+    }
+}
+
+// The first word of the first row whose chain has it.
+pub fn first_row(s: &[u8], head: Header, defect: Defect) -> Fault
+    requires { ⌜ Sized (now s) head × (fault6 (now s) ≡ none) × (Repeats defect → fault7 (now s) ≡ none) ⌝ }
+    ensures { λ r. ⌜ placeOf r ≡ firstDefective defect (now (s .entry)) ⌝ }
+{
+    let start = header::rows_start(head);
+    let rows = sections::rows(s, head);
+    let records = sections::records(s, head);
+    for i in 0..head.rows {
+        let first = words::count(rows, 4 * i + 3);
+        if is_defective(records, first, head.records, defect) {
+            return Fault::At(start + 4 * i);
+        }
+    }
+    Fault::Clear
+}
