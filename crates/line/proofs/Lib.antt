@@ -1,0 +1,6 @@
+pub mod Told
+pub mod Fitting
+pub mod Marks
+pub mod Axles
+pub mod Standing
+pub mod Results

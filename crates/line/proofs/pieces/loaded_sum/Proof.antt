@@ -1,0 +1,37 @@
+use mathlib.Core.Path.{refl, sym, _∙_}
+use native.Mathlib.Omega.{arith}
+use borrow.Author.Tests.{eq-eqb, ne-eqb}
+use mir.Syntax.{w64}
+use Rattle.exact.proofs.Bounds.{within-pos}
+use Rattle.exact.proofs.Held.{got}
+use Rattle.line.proofs.Told.{told}
+use borrow.Author.Needs.{needs}
+use Rattle.line.proofs.pieces.loaded_sum.Statement.{statement}
+use Rattle.line.proofs.pieces.loaded_sum.Tie as tie
+
+patch-byte-requires : tie.Need-patch-byte-requires
+patch-byte-requires c κs = search needs
+
+loaded-byte-requires : tie.Need-loaded-byte-requires
+loaded-byte-requires c κs = search needs
+
+end-sum-requires : tie.Need-end-sum-requires
+end-sum-requires c κs = search needs
+
+returns : tie.Need-returns
+returns c =
+    let d = c .before in
+    let p = d .before .before .patch-byte .ensures in
+    let l = d .before .loaded-byte .ensures in
+    rw (eq-eqb _ _ (sym p ∙ d .if1 .taken ∙ l)) (told (got w64 (c .end-sum .ok) (c .end-sum .ensures)))
+
+returns-2 : tie.Need-returns-2
+returns-2 c =
+    let p = c .before .before .patch-byte .ensures in
+    let l = c .before .loaded-byte .ensures in
+    (rw (ne-eqb _ _ (λ e. c .if1 .left (p ∙ e ∙ sym l))) refl, within-pos 10000 (omega arith))
+
+pub loaded-sum-spec : {M : Type 1} → statement M
+loaded-sum-spec =
+    tie.close
+    (tie.spec patch-byte-requires loaded-byte-requires end-sum-requires returns returns-2)

@@ -1,0 +1,80 @@
+// The raising and lowering line effects of both kinds, with the positions that give them.
+use crate::pair;
+use crate::pieces;
+use exact::Question;
+use model::Hn;
+use model::Ho;
+use model::Position;
+use model::Sense;
+ghost use mathlib.Core.Path.{_≡_};
+ghost use Prim.Native.Nat.{_+_, _*_, _≤_};
+ghost use lib.IntN.{pos, _+ℤ_, _*ℤ_};
+ghost use lib.Signed.{_≤ℤ_};
+ghost use Rattle.exact.specs.Parts.{up};
+ghost use Rattle.exact.specs.Bounds.{Within};
+ghost use Rattle.model.specs.Decode.{influenceLine};
+ghost use Rattle.model.specs.Line.{axle as axleOf, HN, HO, sought};
+ghost use Rattle.line.specs.Fits.{LineFits};
+ghost use Rattle.line.specs.Sought.{SoughtNear, SoughtRight};
+
+// A sense's uniform load and best pair.
+pub struct Sought {
+    pub uniform: i64,
+    pub pair: i64,
+    pub position: Position,
+}
+
+// What a sense seeks.
+fn question(sense: Sense) -> Question
+    ensures { λ r. ⌜ r ≡ sought sense ⌝ }
+{
+    match sense {
+        Sense::Raising => Question::Greatest,
+        Sense::Lowering => Question::Least,
+    }
+}
+
+// The uniform load and the best pair of a sense on a line of n pieces.
+pub fn seek(line: &[u8], h: usize, n: usize, sense: Sense) -> Sought
+    requires { ⌜ LineFits (now line) n ⌝ }
+    requires { ⌜ (1 ≤ h) × ((h ≤ 50) × (n * h ≤ 1000)) ⌝ }
+    ensures { λ r. ⌜ SoughtRight (influenceLine (now (line .entry)) h n) sense r ⌝ }
+{
+    let uniform = pieces::uniform_part(line, h, n, sense);
+    let stand = pair::best(question(sense), line, h, n);
+    let side = stand.side;
+    let position = Position {
+        station: (stand.station as i64) - (pair::spacing(h) as i64),
+        side,
+    };
+    Sought {
+        uniform,
+        pair: stand.value,
+        position,
+    }
+}
+
+// The line effect under an axle load.
+fn effect(axle: i64, s: Sought) -> i64
+    requires { ⌜ SoughtNear s ⌝ }
+    requires { ⌜ (pos 0 ≤ℤ axle) × Within 3200 axle ⌝ }
+    ensures { λ r. ⌜ (r ≡ s .uniform +ℤ axle *ℤ s .pair) × Within (70000000 + up axle * 10000) r ⌝ }
+{
+    s.uniform + axle * s.pair
+}
+
+// The line effect of an HN element.
+pub fn hn(s: Sought) -> i64
+    requires { ⌜ SoughtNear s ⌝ }
+    ensures { λ r. ⌜ (r ≡ s .uniform +ℤ axleOf HN *ℤ s .pair) × Within 86000000 r ⌝ }
+{
+    effect(Hn::AXLE, s)
+}
+
+// The line effect of an HO element.
+pub fn ho(s: Sought) -> i64
+    requires { ⌜ SoughtNear s ⌝ }
+    ensures { λ r. ⌜ (r ≡ s .uniform +ℤ axleOf HO *ℤ s .pair) × Within 102000000 r ⌝ }
+{
+    effect(Ho::AXLE, s)
+}

@@ -1,0 +1,78 @@
+// Whole pieces: their ordinate sums, patch bytes and uniform load.
+use model::Sense;
+ghost use mathlib.Core.Path.{_≡_};
+ghost use mathlib.Core.List.{_++_};
+ghost use Prim.Native.Nat.{ℕ, _*_, _≤_};
+ghost use lib.ListN.{length, drop};
+ghost use Rattle.exact.specs.Bounds.{Within};
+ghost use Rattle.model.specs.Decode.{pieceAt, influenceLine};
+ghost use Rattle.model.specs.Line.{endSum, patchByte, patchBytes, loadedByte, loadedSum, uniformPart};
+ghost use Rattle.line.specs.Fits.{PieceFits, LineFits};
+
+// Piece i's ordinate sum a + b.
+fn end_sum(line: &[u8], i: usize) -> i64
+    requires { ⌜ PieceFits (now line) i ⌝ }
+    ensures { λ r. ⌜ (r ≡ endSum (pieceAt (now (line .entry)) i)) × Within 10000 r ⌝ }
+{
+    words::word(line, 2 * i) + words::word(line, 2 * i + 1)
+}
+
+// Piece i's patch byte.
+fn patch_byte(line: &[u8], i: usize) -> u8
+    requires { ⌜ PieceFits (now line) i ⌝ }
+    ensures { λ r. ⌜ r ≡ patchByte (pieceAt (now (line .entry)) i) ⌝ }
+{
+    let sum = end_sum(line, i);
+    if 0 < sum {
+        return 1;
+    }
+    if sum < 0 {
+        return 2;
+    }
+    0
+}
+
+// The patch byte of the pieces that an element loads.
+fn loaded_byte(sense: Sense) -> u8
+    ensures { λ r. ⌜ r ≡ loadedByte sense ⌝ }
+{
+    match sense {
+        Sense::Raising => 1,
+        Sense::Lowering => 2,
+    }
+}
+
+// Piece i's ordinate sum where an element of the sense loads it, else 0.
+fn loaded_sum(line: &[u8], i: usize, sense: Sense) -> i64
+    requires { ⌜ PieceFits (now line) i ⌝ }
+    ensures { λ r. ⌜ (r ≡ loadedSum sense (pieceAt (now (line .entry)) i)) × Within 10000 r ⌝ }
+{
+    if patch_byte(line, i) == loaded_byte(sense) {
+        return end_sum(line, i);
+    }
+    0
+}
+
+// The uniform load of a sense's whole pieces, in 75 N·U.
+pub fn uniform_part(line: &[u8], h: usize, n: usize, sense: Sense) -> i64
+    requires { ⌜ LineFits (now line) n ⌝ }
+    requires { ⌜ (h ≤ 50) × (n * h ≤ 1000) ⌝ }
+    ensures { λ r. ⌜ (r ≡ uniformPart (influenceLine (now (line .entry)) h n) sense) × Within 70000000 r ⌝ }
+{
+    let mut sum: i64 = 0;
+    for i in 0..n {
+        sum += loaded_sum(line, i, sense);
+    }
+    model::UNIFORM * (h as i64) * sum
+}
+
+// Writes a byte a piece; later bytes stay.
+pub fn mark(line: &[u8], n: usize, patch: &mut [u8])
+    requires { ⌜ LineFits (now line) n ⌝ }
+    requires { ⌜ n ≤ length (now patch) ⌝ }
+    ensures { λ _. ⌜ ((h : ℕ) → now (patch .exit) ≡ patchBytes (influenceLine (now (line .entry)) h n) ++ drop n (now (patch .entry))) ⌝ }
+{
+    for i in 0..n {
+        patch[i] = patch_byte(line, i);
+    }
+}
