@@ -1,0 +1,36 @@
+use mathlib.Core.Path.{_≡_, refl, sym, _∙_, ap₂}
+use mir.Syntax.{w64}
+use borrow.Author.Needs.{needs}
+use Rattle.exact.specs.Questions.{beats}
+use Rattle.exact.proofs.Held.{back}
+use Rattle.lanes.specs.Candidates.{ordinateAt}
+use Rattle.lanes.proofs.centres.consider.Statement.{statement}
+use Rattle.lanes.proofs.centres.consider.Tie as tie
+use Rattle.lanes.proofs.centres.consider.Reads as reads
+use Rattle.lanes.proofs.centres.consider.Lts as lts
+use Rattle.exact.proofs.beats.Reads as beats-reads
+use Rattle.lanes.proofs.centres.ordinate.Reads as ordinate-reads
+
+ordinate-requires : tie.Need-ordinate-requires
+ordinate-requires c κs = search needs
+
+beats-requires : tie.Need-beats-requires
+beats-requires c κs = search needs
+
+-- what the test compared
+tested : (c : tie.After-beats) → let a = c .before .before .before .before .args in beats (a .q) (ordinateAt (a .across .now) (a .d) (a .at)) (a .best .ordinate) ≡ c .beats .result
+tested c =
+    let o = c .before .before .ordinate in
+    let q = c .before .before .before .before .args .q in
+    sym (c .beats .ensures ∙ ap₂ (beats q) (back w64 (o .ok) (o .ensures .0)) (back w64 (c .before .struct-told .given .0 .1) refl))
+
+returns : tie.Need-returns
+returns c =
+    let o = c .before .before .before .ordinate in
+    rw (back w64 (o .ok) (o .ensures .0), tested (c .before) ∙ c .if1 .taken) refl
+
+returns-2 : tie.Need-returns-2
+returns-2 c = rw (tested (c .before) ∙ c .if1 .left) refl
+
+pub consider-spec : {M : Type 1} → statement M
+consider-spec = tie.close (tie.spec ordinate-requires beats-requires returns returns-2)

@@ -1,0 +1,34 @@
+use mathlib.Core.Path.{refl}
+use native.Mathlib.Omega.{arith}
+use borrow.Author.Tests.{eq-eqb, ne-eqb}
+use borrow.Author.Needs.{needs}
+use Rattle.model.specs.Dynamic.{dynamicFactor}
+use Rattle.lanes.proofs.dynamic.factor.Statement.{statement}
+use Rattle.lanes.proofs.dynamic.factor.Tie as tie
+use Rattle.lanes.proofs.dynamic.factor.Reads as reads
+use Rattle.lanes.proofs.dynamic.factor.Lts as lts
+
+returns : tie.Need-returns
+unfolding dynamicFactor
+returns c = rw (eq-eqb _ _ (c .if1 .taken)) refl
+
+returns-2 : tie.Need-returns-2
+unfolding dynamicFactor
+returns-2 c = rw (ne-eqb _ _ (c .before .if1 .left), eq-eqb _ _ (c .if2 .taken)) refl
+
+returns-3 : tie.Need-returns-3
+unfolding dynamicFactor
+returns-3 c = rw (ne-eqb _ _ (c .before .before .if1 .left), ne-eqb _ _ (c .before .if2 .left)) (omega arith)
+
+mul-result : tie.Need-mul-result
+mul-result c = search needs
+
+sub-result : tie.Need-sub-result
+sub-result c = search needs
+
+returns-4 : tie.Need-returns-4
+unfolding dynamicFactor
+returns-4 c = rw (ne-eqb _ _ (c .before .before .if1 .left), ne-eqb _ _ (c .before .if2 .left)) (omega arith)
+
+pub factor-spec : {M : Type 1} → statement M
+factor-spec = tie.close (tie.spec returns returns-2 returns-3 mul-result sub-result returns-4)

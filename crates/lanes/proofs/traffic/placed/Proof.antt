@@ -1,0 +1,76 @@
+use mathlib.Core.Path.{_≡_}
+use Prim.Native.Nat.{_-_, _≤_}
+use native.Mathlib.Omega.{arith}
+use lib.ListN.{getD}
+use Rattle.model.specs.Answered.{emptyLane}
+use Rattle.lanes.specs.Entries.{noElement}
+use Rattle.lanes.specs.Traffic.{laneOf}
+use Rattle.lanes.proofs.Filled.{FilledTo, filled-none, filled-more}
+use Rattle.lanes.proofs.traffic.placed.Statement.{statement}
+use Rattle.lanes.proofs.traffic.placed.Tie as tie
+use Rattle.lanes.proofs.traffic.placed.Reads as reads
+use Rattle.lanes.proofs.traffic.placed.Lts as lts
+use Rattle.lanes.proofs.traffic.lane.Reads as lane-reads
+
+abbrev Inv-loop : tie.InvT-loop
+Inv-loop set ho n hn over lanes₀ i₀ lanes i = (i ≤ n) × FilledTo (λ k x. x ≡ laneOf set ho k (getD hn k noElement) (getD over k noElement)) 5 emptyLane i lanes
+
+abbrev μ-loop : tie.MeasureT-loop
+μ-loop set ho n hn over lanes₀ i₀ lanes i = n - i
+
+loop-holds : tie.Need-loop-holds Inv-loop μ-loop
+loop-holds c = (omega arith, filled-none _ 5 emptyLane)
+
+mul-a : tie.Need-mul-a Inv-loop μ-loop
+mul-a c = omega arith
+
+array-copy-out-a : tie.Need-array-copy-out-a Inv-loop μ-loop
+array-copy-out-a c = omega arith
+
+mul-b : tie.Need-mul-b Inv-loop μ-loop
+mul-b c = omega arith
+
+array-copy-out-b : tie.Need-array-copy-out-b Inv-loop μ-loop
+array-copy-out-b c = omega arith
+
+lane-requires : tie.Need-lane-requires Inv-loop μ-loop
+lane-requires c κs = omega arith
+
+mul-lanes : tie.Need-mul-lanes Inv-loop μ-loop
+mul-lanes c = omega arith
+
+array-set-from-lanes : tie.Need-array-set-from-lanes Inv-loop μ-loop
+array-set-from-lanes c = omega arith
+
+add-i : tie.Need-add-i Inv-loop μ-loop
+add-i c = omega arith
+
+loop-less : tie.Need-loop-less Inv-loop μ-loop
+loop-less c = omega arith
+
+loop-again : tie.Need-loop-again Inv-loop μ-loop
+loop-again c = (omega arith, filled-more (c .lane .result) (omega arith) (c .before .before .before .before .loop .inv .1) (c .lane .ensures))
+
+returns : tie.Need-returns Inv-loop μ-loop
+returns c =
+    let f = c .before .loop .inv .1 in
+    record { five = f .full; each = λ k h. f .each k (omega arith); past = λ k h. f .past k (omega arith) }
+
+pub placed-spec : {M : Type 1} → statement M
+placed-spec =
+    tie.close
+    (tie.spec
+    Inv-loop
+    μ-loop
+    loop-holds
+    mul-a
+    array-copy-out-a
+    mul-b
+    array-copy-out-b
+    lane-requires
+    mul-lanes
+    array-set-from-lanes
+    add-i
+    loop-less
+    loop-again
+    returns)

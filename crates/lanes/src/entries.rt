@@ -1,0 +1,90 @@
+// The best entry of each lane for a kind and a question.
+use crate::centres::Centre;
+use crate::centres::Span;
+use exact::Question;
+use model::Sense;
+ghost use mathlib.Core.Path.{_≡_};
+ghost use Prim.Native.Nat.{ℕ, _≤_, _<_};
+ghost use lib.ListN.{getD};
+ghost use Rattle.exact.specs.Bounds.{Within};
+ghost use Rattle.model.proofs.Centre.{other};
+ghost use Rattle.lanes.specs.Spans.{noSpan};
+ghost use Rattle.lanes.specs.Entries.{bestOf, SpanNear, ChosenRight, AllChosen};
+
+// A lane's best element: its effect, its sense and its centre.
+pub struct Chosen {
+    pub value: i64,
+    pub sense: Sense,
+    pub centre: usize,
+}
+
+// The centre with the question's best ordinate.
+fn best_of(q: Question, span: Span) -> Centre
+    ensures { λ r. ⌜ r ≡ bestOf q span ⌝ }
+{
+    match q {
+        Question::Greatest => span.greatest,
+        Question::Least => span.least,
+    }
+}
+
+// The centre with the other question's.
+fn worst_of(q: Question, span: Span) -> Centre
+    ensures { λ r. ⌜ r ≡ bestOf (other q) span ⌝ }
+{
+    match q {
+        Question::Greatest => span.least,
+        Question::Least => span.greatest,
+    }
+}
+
+// Of a lane with this span, under these line effects.
+pub fn choose(q: Question, span: Span, raising: i64, lowering: i64) -> Chosen
+    requires { ⌜ SpanNear span ⌝ }
+    requires { ⌜ Within 102000000 raising × Within 102000000 lowering ⌝ }
+    ensures { λ r. ⌜ ChosenRight q span raising lowering r ⌝ }
+{
+    let r = best_of(q, span);
+    let l = worst_of(q, span);
+    let up = r.ordinate * raising;
+    let down = l.ordinate * lowering;
+    if exact::beats(q, down, up) {
+        return Chosen {
+            value: down,
+            sense: Sense::Lowering,
+            centre: l.at,
+        };
+    }
+    Chosen {
+        value: up,
+        sense: Sense::Raising,
+        centre: r.at,
+    }
+}
+
+// Of all lanes.
+pub fn choose_all(
+    q: Question,
+    spans: [Span; 5],
+    n: usize,
+    raising: i64,
+    lowering: i64,
+) -> [Chosen; 5]
+    requires { ⌜ (0 < n) × (n ≤ 5) ⌝ }
+    requires { ⌜ ((i : ℕ) → i < n → SpanNear (getD spans i noSpan)) ⌝ }
+    requires { ⌜ Within 102000000 raising × Within 102000000 lowering ⌝ }
+    ensures { λ r. ⌜ AllChosen q spans n raising lowering r ⌝ }
+{
+    let none = Chosen {
+        value: 0,
+        sense: Sense::Raising,
+        centre: 0,
+    };
+    let mut all = [none; 5];
+    for i in 0..n {
+        let span = spans[i];
+        let c = choose(q, span, raising, lowering);
+        all[i] = c;
+    }
+    all
+}
