@@ -1,0 +1,192 @@
+// The rows' best values, and the governing row of a limit state for each question.
+use crate::chain;
+use exact::Question;
+use model::Governing;
+use model::State;
+ghost use mathlib.Core.Path.{_≡_};
+ghost use Prim.Native.Nat.{_-_, _≤_};
+ghost use Rattle.exact.specs.Bounds.{Within};
+ghost use Rattle.model.specs.Decode.{effectAt, limitOf, liveOf, rowAt};
+ghost use Rattle.rows.specs.Tables.{TablesFit};
+ghost use Rattle.rows.specs.Governed.{trafficOf, LiveFits, RowRight, laterFound, FoundRight, StateFound};
+
+// The greatest (least) traffic values.
+pub struct Live {
+    pub normal: i64,
+    pub overload: i64,
+}
+
+// The traffic value of a row's live kind.
+fn traffic(kind: usize, live: Live) -> i64
+    requires { ⌜ (kind ≤ 2) × LiveFits live ⌝ }
+    ensures { λ r. ⌜ (r ≡ trafficOf live (liveOf kind)) × Within 1000000000000 r ⌝ }
+{
+    if kind == 1 {
+        return live.normal;
+    }
+    if kind == 2 {
+        return live.overload;
+    }
+    0
+}
+
+// Row r's best value.
+fn row(
+    q: Question,
+    effects: &[u8],
+    rows: &[u8],
+    records: &[u8],
+    count: usize,
+    live: Live,
+    r: usize,
+) -> Governing
+    requires { ⌜ TablesFit (now effects) (now rows) (now records) r count × (1 ≤ r) × LiveFits live ⌝ }
+    ensures { λ x. ⌜ x .row ≡ r ⌝ }
+    ensures { λ x. ⌜ RowRight q (effectAt (now (effects .entry))) (rowAt (now (rows .entry)) (now (records .entry)) count) (trafficOf live) x ⌝ }
+{
+    let first = words::count(rows, 4 * (r - 1) + 3);
+    let c = chain::best(q, effects, records, first, count);
+    let out = c.out;
+    let omitted = chain::omitted(out);
+    let kind = words::count(rows, 4 * (r - 1) + 1);
+    let factor = words::count(rows, 4 * (r - 1) + 2);
+    let loaded = (factor as i64) * traffic(kind, live);
+    if exact::beats(q, 0, loaded) {
+        return Governing {
+            value: c.value,
+            row: r,
+            omitted,
+            unladen: true,
+        };
+    }
+    Governing {
+        value: c.value + loaded,
+        row: r,
+        omitted,
+        unladen: false,
+    }
+}
+
+// The governing row so far, if there is one.
+pub struct Found {
+    pub any: bool,
+    pub best: Governing,
+}
+
+// The later row if it beats the earlier.
+fn later(q: Question, sofar: Found, next: Governing) -> Found
+    ensures { λ f. ⌜ f ≡ laterFound q sofar next ⌝ }
+{
+    let best = sofar.best;
+    if sofar.any {
+        if exact::beats(q, next.value, best.value) {
+            return Found {
+                any: true,
+                best: next,
+            };
+        }
+        return Found { any: true, best };
+    }
+    Found {
+        any: true,
+        best: next,
+    }
+}
+
+// Row r taken into account, where it is of the limit state.
+fn step(
+    q: Question,
+    effects: &[u8],
+    rows: &[u8],
+    records: &[u8],
+    count: usize,
+    live: Live,
+    limit: usize,
+    sofar: Found,
+    r: usize,
+) -> Found
+    requires { ⌜ TablesFit (now effects) (now rows) (now records) r count × (1 ≤ r) × LiveFits live × (1 ≤ limit) × (limit ≤ 2) ⌝ }
+    requires { ⌜ FoundRight q (effectAt (now effects)) (rowAt (now rows) (now records) count) (trafficOf live) (limitOf limit) (r - 1) sofar ⌝ }
+    ensures { λ f. ⌜ FoundRight q (effectAt (now (effects .entry))) (rowAt (now (rows .entry)) (now (records .entry)) count) (trafficOf live) (limitOf limit) r f ⌝ }
+{
+    if words::count(rows, 4 * (r - 1)) == limit {
+        let next = row(q, effects, rows, records, count, live, r);
+        return later(q, sofar, next);
+    }
+    sofar
+}
+
+// The governing row among so many.
+fn governing(
+    q: Question,
+    effects: &[u8],
+    rows: &[u8],
+    records: &[u8],
+    n: usize,
+    count: usize,
+    live: Live,
+    limit: usize,
+) -> Found
+    requires { ⌜ TablesFit (now effects) (now rows) (now records) n count × LiveFits live × (1 ≤ limit) × (limit ≤ 2) ⌝ }
+    ensures { λ f. ⌜ FoundRight q (effectAt (now (effects .entry))) (rowAt (now (rows .entry)) (now (records .entry)) count) (trafficOf live) (limitOf limit) n f ⌝ }
+{
+    let none = Governing {
+        value: 0,
+        row: 0,
+        omitted: 0,
+        unladen: false,
+    };
+    let mut found = Found {
+        any: false,
+        best: none,
+    };
+    for i in 0..n {
+        found = step(q, effects, rows, records, count, live, limit, found, i + 1);
+    }
+    found
+}
+
+// A limit state, 1 service or 2 ultimate.
+pub fn state(
+    effects: &[u8],
+    rows: &[u8],
+    records: &[u8],
+    n: usize,
+    count: usize,
+    most: Live,
+    least: Live,
+    limit: usize,
+) -> State
+    requires { ⌜ TablesFit (now effects) (now rows) (now records) n count × LiveFits most × LiveFits least × (1 ≤ limit) × (limit ≤ 2) ⌝ }
+    ensures { λ s. ⌜ StateFound (effectAt (now (effects .entry))) (rowAt (now (rows .entry)) (now (records .entry)) count) (trafficOf most) (trafficOf least) (limitOf limit) n s ⌝ }
+{
+    let g = governing(
+        Question::Greatest,
+        effects,
+        rows,
+        records,
+        n,
+        count,
+        most,
+        limit,
+    );
+    let l = governing(
+        Question::Least,
+        effects,
+        rows,
+        records,
+        n,
+        count,
+        least,
+        limit,
+    );
+    if g.any {
+        let greatest = g.best;
+        let lowest = l.best;
+        return State::Reported {
+            greatest,
+            least: lowest,
+        };
+    }
+    State::Absent
+}
