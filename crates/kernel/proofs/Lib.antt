@@ -1,0 +1,5 @@
+pub mod Right
+pub mod Fits
+pub mod Placed
+pub mod Pairs
+pub mod Loads

@@ -1,0 +1,97 @@
+-- What the traffic values ask of an accepted job, and what they give it.
+use mathlib.Core.Path.{_≡_, refl, sym, _∙_, ap₂, subst}
+use mathlib.Core.List.{List}
+use Prim.Native.Nat.{ℕ, _≤_, _<_}
+use lib.IntN.{ℤ, pos, _+ℤ_, _*ℤ_}
+use lib.Signed.{_≤ℤ_}
+use lib.ListN.{getD}
+use Rattle.exact.specs.Bounds.{Within}
+use Rattle.exact.specs.declared.Question.{Question}
+use Rattle.exact.specs.declared.Question.the-variants.{Greatest, Least}
+use Rattle.model.specs.Job.{Job, Live, normal, overload}
+use Rattle.model.specs.Decode.{decode, carriageway}
+use Rattle.model.specs.Dynamic.{dynamicFactor}
+use Rattle.model.specs.Lanes.{laneCount}
+use Rattle.model.specs.Line.{Kind, HN, HO, axle, lineEffect}
+use Rattle.model.specs.Sections.{transverseSection}
+use Rattle.model.specs.declared.Sense.the-variants.{Raising, Lowering}
+use Rattle.model.specs.declared.Extreme.{Extreme}
+use Rattle.model.specs.declared.Traffic.{Traffic}
+use Rattle.model.proofs.Signs.{line-zero}
+use Rattle.job.specs.declared.header.Header.{Header}
+use Rattle.line.specs.Sought.{SoughtRight}
+use Rattle.line.specs.declared.effect.Sought.{Sought}
+use Rattle.line.proofs.Results.{sought-effect}
+use Rattle.lanes.specs.Spans.{SpanRight, noSpan}
+use Rattle.lanes.specs.Traffic.{TrafficFits, EffectsFit, Spanned, NormalPlaced, OverloadPlaced}
+use Rattle.lanes.specs.declared.centres.Span.{Span}
+use Rattle.lanes.specs.declared.traffic.Effects.{Effects}
+use Rattle.kernel.specs.Parts.{Ready, effectsOf, TrafficPlaced}
+use Rattle.kernel.proofs.Fits.{across-fits, dynamic}
+use Rattle.kernel.proofs.Placed.{normal-placed, overload-placed}
+
+-- the line effects of what is sought
+module _ (job : Job) (kind : Kind) (raising lowering : Sought) (up : SoughtRight (job .line) Raising raising) (down : SoughtRight (job .line) Lowering lowering) (e : Effects)
+    (is : (e .raising ≡ raising .uniform +ℤ axle kind *ℤ raising .pair) × (e .lowering ≡ lowering .uniform +ℤ axle kind *ℤ lowering .pair)) where
+  raised : e .raising ≡ lineEffect (job .line) kind Raising
+  raised = is .0 ∙ sought-effect up kind
+
+  lowered : e .lowering ≡ lineEffect (job .line) kind Lowering
+  lowered = is .1 ∙ sought-effect down kind
+
+  pub effects-are : e ≡ effectsOf job kind
+  effects-are = ap₂ (λ (x y : ℤ). record { raising = x; lowering = y }) raised lowered
+
+  pub effects-fit : {m : ℕ} → Within m (e .raising) × Within m (e .lowering) → EffectsFit m e
+  effects-fit near = record {
+    up = subst (λ (z : ℤ). pos 0 ≤ℤ z) (sym raised) (line-zero (job .line) kind Raising);
+    down = subst (λ (z : ℤ). z ≤ℤ pos 0) (sym lowered) (line-zero (job .line) kind Lowering);
+    raising = near .0;
+    lowering = near .1;
+  }
+
+-- the spans as they were found
+module _ {b : List ℕ} {head : Header} (ready : Ready b head) {across : List ℕ} (found : across ≡ transverseSection b) (spans : List Span) {n d : ℕ}
+    (count : (n ≡ laneCount (head .width)) × ((1 ≤ n) × (n ≤ 5))) (factor : d ≡ dynamicFactor (head .kind) (head .value))
+    (each : (i : ℕ) → i < n → SpanRight (carriageway across (head .width) (head .spacing)) i (getD spans i noSpan)) where
+  pub traffic-fits : TrafficFits spans n (head .spacing) d
+  traffic-fits =
+      let f = across-fits ready in
+      let y = dynamic ready in
+      record {
+        some = count .1 .0;
+        few = count .1 .1;
+        apart = f .apart;
+        close = f .close;
+        least = subst (λ (m : ℕ). 1000 ≤ m) (sym factor) (y .0);
+        greatest = subst (λ (m : ℕ). m ≤ 1300) (sym factor) (y .1);
+        near = λ i h. record { greatest = each i h .greatest .near; least = each i h .least .near };
+      }
+
+  pub spanned : Spanned (decode b .deck) spans n (head .spacing)
+  unfolding decode
+  spanned =
+      let own : (P : Header → Type 0) → P head → P _ = λ P. subst P (ready .own) in
+      record {
+        lanes = own (λ h. n ≡ laneCount (h .width)) (count .0);
+        spacing = own (λ h. head .spacing ≡ h .spacing) refl;
+        each = λ i h.
+            own (λ h. SpanRight (carriageway (transverseSection b) (h .width) (h .spacing)) i (getD spans i noSpan))
+            (subst (λ (l : List ℕ). SpanRight (carriageway l (head .width) (head .spacing)) i (getD spans i noSpan)) found (each i h));
+      }
+
+  -- the dynamic factor is the job's
+  pub factor-is : (q : Question) → d ≡ decode b .dynamic q
+  unfolding decode
+  factor-is q = factor ∙ subst (λ (h : Header). dynamicFactor (head .kind) (head .value) ≡ dynamicFactor (h .kind) (h .value)) (ready .own) refl
+
+-- a normal value over the spans is the job's
+pub normal-found : (q : Question) (job : Job) (d : ℕ) (hn : Effects) (x : Extreme) → d ≡ job .dynamic q → hn ≡ effectsOf job HN → NormalPlaced q (job .deck) d hn x → TrafficPlaced q job normal x
+normal-found q job d hn x e f p = normal-placed q job x (subst (λ (d : ℕ). NormalPlaced q (job .deck) d (effectsOf job HN) x) e (subst (λ (h : Effects). NormalPlaced q (job .deck) d h x) f p))
+
+-- and so is an overload value
+pub overload-found : (q : Question) (job : Job) (d : ℕ) (hn ho : Effects) (x : Extreme) → d ≡ job .dynamic q → hn ≡ effectsOf job HN → ho ≡ effectsOf job HO → OverloadPlaced q (job .deck) d hn ho x → TrafficPlaced q job overload x
+overload-found q job d hn ho x e f g p =
+    overload-placed q job x
+    (subst (λ (d : ℕ). OverloadPlaced q (job .deck) d (effectsOf job HN) (effectsOf job HO) x) e
+    (subst (λ (h : Effects). OverloadPlaced q (job .deck) d h (effectsOf job HO) x) f (subst (λ (o : Effects). OverloadPlaced q (job .deck) d hn o x) g p)))

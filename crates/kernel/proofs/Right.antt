@@ -1,0 +1,84 @@
+-- What a reported value is right by: demand 3's bounds, and what its placement or its row's omissions give.
+use mathlib.Core.Path.{_≡_, refl, sym, _∙_, subst}
+use mathlib.Core.List.{List, _++_}
+use Prim.Native.Nat.{ℕ, zero, _<_}
+use Rattle.exact.specs.Questions.{NoBetter}
+use Rattle.exact.specs.declared.Question.{Question}
+use Rattle.exact.specs.declared.Question.the-variants.{Greatest, Least}
+use Rattle.model.specs.Job.{Job, Limit, service, ultimate, Live, noTraffic, normal, overload}
+use Rattle.model.specs.Line.{patchBytes}
+use Rattle.model.specs.Traffic.{trafficValue}
+use Rattle.model.specs.Arrangements.{arranged}
+use Rattle.model.specs.Answered.{positionOf, reportedEffect, extremeOf, PositionRight, TrafficRight, StateRight, AccountRight}
+use Rattle.model.specs.declared.Sense.{Sense}
+use Rattle.model.specs.declared.Sense.the-variants.{Raising, Lowering}
+use Rattle.model.specs.declared.Extreme.{Extreme}
+use Rattle.model.specs.declared.State.{State}
+use Rattle.model.specs.declared.Account.{Account}
+use Rattle.model.proofs.Accepted.{OneSigned}
+use Rattle.model.proofs.Unbeaten.{unbeaten}
+use Rattle.model.proofs.Signs.{no-traffic}
+use Rattle.model.proofs.Attained.{reported-lawful, reported-gives}
+use Rattle.rows.specs.Governed.{trafficOf}
+use Rattle.rows.specs.declared.state.Live.{Live as Pair}
+use Rattle.rows.proofs.Limits.{Given, state-right}
+use Rattle.kernel.specs.Parts.{TrafficPlaced, reportedValues, StateOf, PartsRight}
+
+module _ (job : Job) (signed : OneSigned (job .line)) (g-pos : zero < job .deck .g) (patch rest : List ℕ) (a : Account)
+    (bytes : patch ≡ patchBytes (job .line) ++ rest) (positions : (sense : Sense) → PositionRight (job .line) sense (positionOf a sense)) where
+  -- such a placement gives its traffic value
+  pub placed-gives : (q : Question) (live : Live) (x : Extreme) → TrafficPlaced q job live x → reportedEffect q job patch a (x .placement) ≡ trafficValue q job live
+  placed-gives q live x p = reported-gives q job patch rest a bytes positions (x .placement) (p .entries) live g-pos (p .sum)
+
+  -- so the reported traffic value is right
+  pub traffic-right : (q : Question) (live : Live) (x : Extreme) → TrafficPlaced q job live x → TrafficRight job patch a q live x
+  traffic-right q live x p = record {
+    value = p .value;
+    unbeaten = λ k w law. subst (NoBetter q (arranged q job k w)) (sym (p .value)) (unbeaten q job live k w signed g-pos law);
+    lawful = reported-lawful q job patch rest a bytes positions (x .placement) (p .entries) live (p .kinds);
+    gives = placed-gives q live x p ∙ sym (p .value);
+    set = p .set;
+    onDeck = p .onDeck;
+    idle = p .idle;
+  }
+
+-- a question's reported values are the job's, for each live kind
+values-given : (q : Question) (job : Job) (v : Pair) → v .normal ≡ trafficValue q job normal → v .overload ≡ trafficValue q job overload → (live : Live) → trafficOf v live ≡ trafficValue q job live
+values-given q job v e f noTraffic = sym (no-traffic q job)
+values-given q job v e f normal = e
+values-given q job v e f overload = f
+
+-- make a right account, with any buffer that starts with the patch bytes
+pub account-right : (job : Job) → OneSigned (job .line) → zero < job .deck .g → (rest : List ℕ) (a : Account) → PartsRight job a → AccountRight job (patchBytes (job .line) ++ rest) a
+account-right job signed g-pos rest a p = record {
+  normalGreatest = traffic Greatest normal (a .normal .greatest) (p .normalGreatest);
+  normalLeast = traffic Least normal (a .normal .least) (p .normalLeast);
+  overloadGreatest = traffic Greatest overload (a .overload .greatest) (p .overloadGreatest);
+  overloadLeast = traffic Least overload (a .overload .least) (p .overloadLeast);
+  raising = p .raising;
+  lowering = p .lowering;
+  service = state service (a .service) (p .service);
+  ultimate = state ultimate (a .ultimate) (p .ultimate);
+}
+  where
+    positions : (sense : Sense) → PositionRight (job .line) sense (positionOf a sense)
+    positions Raising = p .raising
+    positions Lowering = p .lowering
+
+    traffic : (q : Question) (live : Live) (x : Extreme) → TrafficPlaced q job live x → TrafficRight job (patchBytes (job .line) ++ rest) a q live x
+    traffic = traffic-right job signed g-pos (patchBytes (job .line) ++ rest) rest a refl positions
+
+    gives : (q : Question) (live : Live) (x : Extreme) → TrafficPlaced q job live x → reportedEffect q job (patchBytes (job .line) ++ rest) a (x .placement) ≡ trafficValue q job live
+    gives = placed-gives job signed g-pos (patchBytes (job .line) ++ rest) rest a refl positions
+
+    given : (limit : Limit) (q : Question) → TrafficPlaced q job normal (extremeOf q (a .normal)) → TrafficPlaced q job overload (extremeOf q (a .overload)) →
+        Given job (patchBytes (job .line) ++ rest) a limit signed g-pos q (trafficOf (reportedValues q a))
+    given limit q hn ho = record {
+      values = values-given q job (reportedValues q a) (hn .value) (ho .value);
+      normals = gives q normal (extremeOf q (a .normal)) hn;
+      overloads = gives q overload (extremeOf q (a .overload)) ho;
+    }
+
+    state : (limit : Limit) (s : State) → StateOf job a limit s → StateRight job (patchBytes (job .line) ++ rest) a limit s
+    state limit s h =
+        state-right job (patchBytes (job .line) ++ rest) a limit signed g-pos _ _ s (given limit Greatest (p .normalGreatest) (p .overloadGreatest)) (given limit Least (p .normalLeast) (p .overloadLeast)) h

@@ -1,0 +1,34 @@
+use mathlib.Core.Path.{_≡_, sym, ap, subst}
+use mathlib.Core.List.{List}
+use Prim.Native.Nat.{ℕ}
+use Rattle.model.specs.Decode.{decode, influenceLine}
+use Rattle.model.specs.Sections.{lineSection, pieceLength, pieceCount}
+use Rattle.line.specs.Fits.{LineFits}
+use Rattle.line.specs.Sought.{SoughtRight}
+use Rattle.job.specs.declared.header.Header.{Header}
+use Rattle.kernel.proofs.Fits.{sized, line-fits, line-limits}
+use Rattle.kernel.proofs.sought.Statement.{statement}
+use Rattle.kernel.proofs.sought.Tie as tie
+use Rattle.kernel.proofs.sought.Reads as reads
+use Rattle.kernel.proofs.sought.Lts as lts
+use Rattle.job.proofs.sections.line.Reads as line-reads
+use Rattle.line.proofs.effect.seek.Reads as seek-reads
+
+line-requires : tie.Need-line-requires
+line-requires c κs = sized (c .before .pre)
+
+seek-requires : tie.Need-seek-requires
+seek-requires c κs =
+    let s = c .before .before in
+    (subst (λ (l : List ℕ). LineFits l (s .args .head .pieces)) (sym (c .line .ensures)) (line-fits (s .pre)), line-limits (s .pre))
+
+returns : tie.Need-returns
+unfolding decode
+returns c =
+    let s = c .before .before .before in
+    let b = s .args .job .now in
+    subst (λ (l : List ℕ). SoughtRight (influenceLine l (pieceLength b) (pieceCount b)) (s .args .sense) (c .seek .result)) (c .before .line .ensures)
+    (subst (λ (h : Header). SoughtRight (influenceLine (c .before .line .result .now) (h .h) (h .pieces)) (s .args .sense) (c .seek .result)) (s .pre .own) (c .seek .ensures))
+
+pub sought-spec : {M : Type 1} → statement M
+sought-spec = tie.close (tie.spec line-requires seek-requires returns)

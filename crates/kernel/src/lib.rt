@@ -1,0 +1,221 @@
+// From a job's bytes to its account.
+use exact::Question;
+use job::header;
+use job::header::Header;
+use job::refusals;
+use job::sections;
+use lanes::centres;
+use lanes::count;
+use lanes::dynamic;
+use lanes::traffic;
+use lanes::traffic::Effects;
+use line::effect;
+use line::effect::Sought;
+use line::pieces;
+use model::Account;
+use model::Answer;
+use model::Entry;
+use model::Extreme;
+use model::Lane;
+use model::Placement;
+use model::Position;
+use model::Sense;
+use model::Side;
+use model::State;
+use model::Traffic;
+use rows::state;
+use rows::state::Live;
+ghost use mathlib.Core.Path.{_≡_};
+ghost use Prim.Native.Nat.{_≤_};
+ghost use lib.IntN.{_+ℤ_, _*ℤ_};
+ghost use Rattle.exact.specs.Bounds.{Within};
+ghost use Rattle.model.specs.Decode.{decode, limitOf};
+ghost use Rattle.model.specs.Line.{HN, HO, axle};
+ghost use Rattle.model.specs.Answered.{zeroTraffic, refusalAnswer, Answered};
+ghost use Rattle.line.specs.Sought.{SoughtNear, SoughtRight};
+ghost use Rattle.rows.specs.Governed.{trafficOf, LiveFits, StateFound};
+ghost use Rattle.kernel.specs.Parts.{Ready, ValuesRight, PartsRight};
+
+// A live kind's two values, both 0, with every lane unloaded.
+fn no_traffic() -> Traffic
+    ensures { λ r. ⌜ r ≡ zeroTraffic ⌝ }
+{
+    let lane = Lane {
+        entry: Entry::Unloaded,
+        centre: 0,
+    };
+    let lanes = [lane; 5];
+    let placement = Placement { set: 0, lanes };
+    let none = Extreme {
+        value: 0,
+        placement,
+    };
+    Traffic {
+        greatest: none,
+        least: none,
+    }
+}
+
+// The answer of a refusal.
+fn refused(number: u32, place: usize) -> Answer
+    ensures { λ r. ⌜ r ≡ refusalAnswer (record { number = number; place = place }) ⌝ }
+{
+    let none = no_traffic();
+    let position = Position {
+        station: 0,
+        side: Side::Left,
+    };
+    let absent = State::Absent;
+    let account = Account {
+        normal: none,
+        overload: none,
+        raising: position,
+        lowering: position,
+        service: absent,
+        ultimate: absent,
+    };
+    Answer {
+        refusal: number,
+        place,
+        account,
+    }
+}
+
+// What is sought of the line for a sense.
+fn sought(job: &[u8], head: Header, sense: Sense) -> Sought
+    requires { ⌜ Ready (now job) head ⌝ }
+    ensures { λ r. ⌜ SoughtRight (decode (now (job .entry)) .line) sense r ⌝ }
+{
+    effect::seek(sections::line(job, head), head.h, head.pieces, sense)
+}
+
+// The HN line effects.
+fn hn_effects(raising: Sought, lowering: Sought) -> Effects
+    requires { ⌜ SoughtNear raising × SoughtNear lowering ⌝ }
+    ensures { λ r. ⌜ (r .raising ≡ raising .uniform +ℤ axle HN *ℤ raising .pair) × (r .lowering ≡ lowering .uniform +ℤ axle HN *ℤ lowering .pair) ⌝ }
+    ensures { λ r. ⌜ Within 86000000 (r .raising) × Within 86000000 (r .lowering) ⌝ }
+{
+    Effects {
+        raising: effect::hn(raising),
+        lowering: effect::hn(lowering),
+    }
+}
+
+// The HO line effects.
+fn ho_effects(raising: Sought, lowering: Sought) -> Effects
+    requires { ⌜ SoughtNear raising × SoughtNear lowering ⌝ }
+    ensures { λ r. ⌜ (r .raising ≡ raising .uniform +ℤ axle HO *ℤ raising .pair) × (r .lowering ≡ lowering .uniform +ℤ axle HO *ℤ lowering .pair) ⌝ }
+    ensures { λ r. ⌜ Within 102000000 (r .raising) × Within 102000000 (r .lowering) ⌝ }
+{
+    Effects {
+        raising: effect::ho(raising),
+        lowering: effect::ho(lowering),
+    }
+}
+
+// The traffic values of both live kinds.
+pub struct TrafficValues {
+    pub normal: Traffic,
+    pub overload: Traffic,
+}
+
+// By what is sought of the line.
+fn values(job: &[u8], head: Header, raising: Sought, lowering: Sought) -> TrafficValues
+    requires { ⌜ Ready (now job) head ⌝ }
+    requires { ⌜ SoughtRight (decode (now job) .line) Sense.Raising raising × SoughtRight (decode (now job) .line) Sense.Lowering lowering ⌝ }
+    ensures { λ r. ⌜ ValuesRight (decode (now (job .entry))) r ⌝ }
+{
+    let hn = hn_effects(raising, lowering);
+    let ho = ho_effects(raising, lowering);
+    let n = count::lane_count(head.width);
+    let g = head.spacing;
+    let d = dynamic::factor(head.kind, head.value);
+    let spans = centres::spans(sections::transverse(job, head), head.width, n, g);
+    let ng = traffic::normal(Question::Greatest, spans, n, g, d, hn);
+    let nl = traffic::normal(Question::Least, spans, n, g, d, hn);
+    let og = traffic::overload(Question::Greatest, spans, n, g, d, hn, ho);
+    let ol = traffic::overload(Question::Least, spans, n, g, d, hn, ho);
+    let normal = Traffic {
+        greatest: ng,
+        least: nl,
+    };
+    let overload = Traffic {
+        greatest: og,
+        least: ol,
+    };
+    TrafficValues { normal, overload }
+}
+
+// A limit state, 1 service or 2 ultimate, by the traffic values.
+fn limit_state(job: &[u8], head: Header, most: Live, least: Live, limit: usize) -> State
+    requires { ⌜ Ready (now job) head × LiveFits most × LiveFits least × (1 ≤ limit) × (limit ≤ 2) ⌝ }
+    ensures { λ r. ⌜ StateFound (decode (now (job .entry)) .effect) (decode (now (job .entry)) .row) (trafficOf most) (trafficOf least) (limitOf limit) (decode (now (job .entry)) .rows) r ⌝ }
+{
+    let effects = sections::effects(job, head);
+    let rows = sections::rows(job, head);
+    let records = sections::records(job, head);
+    state::state(
+        effects,
+        rows,
+        records,
+        head.rows,
+        head.records,
+        most,
+        least,
+        limit,
+    )
+}
+
+// The account of an accepted job.
+fn account(job: &[u8], head: Header) -> Account
+    requires { ⌜ Ready (now job) head ⌝ }
+    ensures { λ r. ⌜ PartsRight (decode (now (job .entry))) r ⌝ }
+{
+    let raising = sought(job, head, Sense::Raising);
+    let lowering = sought(job, head, Sense::Lowering);
+    let v = values(job, head, raising, lowering);
+    let normal = v.normal;
+    let overload = v.overload;
+    let ng = normal.greatest;
+    let nl = normal.least;
+    let og = overload.greatest;
+    let ol = overload.least;
+    let most = Live {
+        normal: ng.value,
+        overload: og.value,
+    };
+    let least = Live {
+        normal: nl.value,
+        overload: ol.value,
+    };
+    let service = limit_state(job, head, most, least, 1);
+    let ultimate = limit_state(job, head, most, least, 2);
+    let up = raising.position;
+    let down = lowering.position;
+    Account {
+        normal,
+        overload,
+        raising: up,
+        lowering: down,
+        service,
+        ultimate,
+    }
+}
+
+// The answer to a job, with the patch buffer that the host lends.
+pub fn solve(job: &[u8], patch: &mut [u8]) -> Answer
+    ensures { λ r. ⌜ Answered (now (job .entry)) (now (patch .entry)) r (now (patch .exit)) ⌝ }
+{
+    let v = refusals::verdict(job, patch.len());
+    if v.number != 0 {
+        return refused(v.number, v.place);
+    }
+    let head = header::read(job);
+    let a = account(job, head);
+    pieces::mark(sections::line(job, head), head.pieces, patch);
+    Answer {
+        refusal: 0,
+        place: 0,
+        account: a,
+    }
+}
