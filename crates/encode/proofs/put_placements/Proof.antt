@@ -1,0 +1,36 @@
+use mathlib.Core.Path.{refl}
+use borrow.Author.Needs.{needs}
+use Rattle.encode.proofs.Stores.{and-then}
+use Rattle.encode.proofs.put_placements.Statement.{statement}
+use Rattle.encode.proofs.put_placements.Tie as tie
+use Rattle.encode.proofs.put_placements.Reads as reads
+use Rattle.encode.proofs.put_placements.Lts as lts
+use Rattle.encode.proofs.put_placement.Reads as put-placement-reads
+
+put-placement-requires : tie.Need-put-placement-requires
+put-placement-requires c κs = search needs
+
+add-put-placement : tie.Need-add-put-placement
+add-put-placement c = search needs
+
+put-placement-requires-2 : tie.Need-put-placement-requires-2
+put-placement-requires-2 c κs = search needs
+
+same-length : tie.Need-same-length
+same-length c = search needs
+
+returns : tie.Need-returns
+returns c =
+    let p2 = c .before .before in
+    let p1 = p2 .before .before .before .before in
+    and-then (p1 .put-placement .ensures) refl (p2 .put-placement2 .ensures)
+
+pub put-placements-spec : {M : Type 1} → statement M
+put-placements-spec =
+    tie.close
+    (tie.spec
+    put-placement-requires
+    add-put-placement
+    put-placement-requires-2
+    same-length
+    returns)

@@ -1,0 +1,37 @@
+use mathlib.Core.Path.{_≡_, sym, ap, subst, _∙_}
+use native.Mathlib.Omega.{arith}
+use borrow.Author.Needs.{needs}
+use lib.IntN.{ℤ, natAbs}
+use mir.Syntax.{w64}
+use mir.Val.{SFits, toZ, ofZ}
+use mir.Facts.{toZ-ofZ}
+use Rattle.hnho.proofs.Signs.{Below, below, Above, above}
+use Rattle.hnho.proofs.magnitude.Statement.{statement}
+use Rattle.hnho.proofs.magnitude.Tie as tie
+
+at-below : (c : tie.Then1) → Below (toZ w64 (ofZ w64 (c .before .args .v)))
+at-below c = below _ (subst (SFits w64) (sym (toZ-ofZ (c .before .fits .v))) (c .before .fits .v)) (c .if1 .taken)
+
+at-above : (c : tie.Else1) → Above (toZ w64 (ofZ w64 (c .before .args .v)))
+at-above c = above _ (subst (SFits w64) (sym (toZ-ofZ (c .before .fits .v))) (c .before .fits .v)) (c .if1 .left)
+
+sub-m : tie.Need-sub-m
+sub-m c = at-below c .fits
+
+cast-m : tie.Need-cast-m
+cast-m c = let b = at-below c in (b .sign, record { fits = omega (arith, b .small) })
+
+add-result : tie.Need-add-result
+add-result c = omega (arith, at-below c .small)
+
+cast-result : tie.Need-cast-result
+cast-result c = let a = at-above c in (a .sign, record { fits = omega (arith, a .small) })
+
+returns : tie.Need-returns
+returns c = at-below c .more ∙ ap natAbs (toZ-ofZ (c .before .fits .v))
+
+returns-2 : tie.Need-returns-2
+returns-2 c = search needs
+
+pub magnitude-spec : {M : Type 1} → statement M
+magnitude-spec = tie.close (tie.spec sub-m cast-m add-result cast-result returns returns-2)

@@ -1,0 +1,45 @@
+-- What a host may conclude from the result of a call.
+use mathlib.Core.Path.{_≡_, refl, sym, _∙_, ap, subst}
+use mathlib.Core.Option.{none, some, Option·some-ne-none}
+use mathlib.Core.List.{List, _++_}
+use Prim.Native.Nat.{ℕ, _+_, _*_, _/_, _%_, _≤_, _<_}
+use native.Mathlib.Omega.{arith}
+use lib.ListN.{length, drop, replicate}
+use Rattle.model.specs.Refusals.{verdict}
+use Rattle.model.specs.Answered.{Answered, refused, accepted, zeroAccount}
+use Rattle.model.specs.Determined.{Fixed, fixedOf}
+use Rattle.model.proofs.Determined.{determined}
+use Rattle.model.specs.declared.Account.{Account}
+use Rattle.model.specs.declared.Answer.{Answer}
+use Rattle.encode.specs.Encoding.{accountBytes, bytesOf}
+use Rattle.host.specs.Hosted.{packed, Hosted, short, answered}
+use Rattle.host.proofs.Places.{refusal-small, answer-small}
+
+-- number and place come apart again, as the header takes them
+pub taken-apart : {b before after : List ℕ} {a : Answer} → Answered b before a after → (packed (a .refusal) (a .place) % 256 ≡ a .refusal) × (packed (a .refusal) (a .place) / 256 ≡ a .place)
+taken-apart r = let s = answer-small r in omega arith
+
+-- 0 is acceptance, and only that
+pub zero-accepts : {job patch account p a : List ℕ} → Hosted job patch account 0 p a → (560 ≤ length account) × (verdict job (length patch) ≡ none)
+zero-accepts (short l e p a) = absurd (omega arith)
+zero-accepts {job} {patch} (answered l x (refused r v u p) e a) = let s = refusal-small job (length patch) v in absurd (omega (arith, e, ap (λ (y : Answer). y .refusal) u))
+zero-accepts (answered l x (accepted v r) e a) = (l, v)
+
+-- the account of a refusal is 560 zero bytes
+zero-bytes : accountBytes zeroAccount ≡ replicate 560 0
+unfolding bytesOf
+zero-bytes = refl
+
+-- a refusal leaves the patch buffer as it was and the account's bytes 0
+pub refusal-clears : {job patch account p a : List ℕ} {result : ℕ} → Hosted job patch account result p a → (result ≡ 0 → ⊥) → 560 ≤ length account → (p ≡ patch) × (a ≡ replicate 560 0 ++ drop 560 account)
+refusal-clears (short l e p a) n h = absurd (omega arith)
+refusal-clears {account = account} (answered l x (refused r v u p) e a) n h = (p, a ∙ ap (λ (y : Answer). accountBytes (y .account) ++ drop 560 account) u ∙ ap (λ (z : List ℕ). z ++ drop 560 account) zero-bytes)
+refusal-clears (answered l x (accepted v r) e a) n h = absurd (n (omega (arith, e, r .refusal, r .place)))
+
+-- the same call gives the same result and the same patch bytes
+pub same-result : {job patch account p p′ a a′ : List ℕ} {m n : ℕ} → Hosted job patch account m p a → Hosted job patch account n p′ a′ → (m ≡ n) × (p ≡ p′)
+unfolding fixedOf
+same-result (short l e p a) (short l′ f p′ a′) = (e ∙ sym f, p ∙ sym p′)
+same-result (short l e p a) (answered l′ x r f a′) = absurd (omega arith)
+same-result (answered l x r e a) (short l′ f p′ a′) = absurd (omega arith)
+same-result (answered l x r e a) (answered l′ y s f a′) = let d = determined r s in (e ∙ ap (λ (z : Fixed). packed (z .refusal) (z .place)) (d .0) ∙ sym f, d .1)

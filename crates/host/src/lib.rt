@@ -1,0 +1,17 @@
+// The entry for hosts written in C; include/hnho.h declares it.
+ghost use Rattle.host.specs.Hosted.{Hosted};
+
+// Solves a job, writes the account's bytes and packs refusal and place into one number, 0 for acceptance. An account buffer under an account's size is refused with 2 at place 0, its bytes cleared.
+#[no_mangle]
+pub extern "C" fn hnho_solve(job: &[u8], patch: &mut [u8], account: &mut [u8]) -> u64
+    ensures { λ r. ⌜ Hosted (now (job .entry)) (now (patch .entry)) (now (account .entry)) r (now (patch .exit)) (now (account .exit)) ⌝ }
+{
+    if account.len() < 560 {
+        encode::clear(account);
+        return 2;
+    }
+    let answer = kernel::solve(job, patch);
+    let found = answer.account;
+    encode::write(account, found);
+    answer.refusal as u64 + 256 * (answer.place as u64)
+}

@@ -1,0 +1,74 @@
+//! The kernel agrees with the second implementation on generated jobs, and no drawn arrangement beats a report.
+
+use random::{call, solve, ACCOUNT_BYTES};
+use second::job::Job;
+use second::words::words_of;
+use second::{checker, generator, sampler};
+
+/// Checks COUNT cases from SEED on (environment, with these defaults).
+fn asked(name: &str, default: u64) -> u64 {
+    match std::env::var(name) {
+        Ok(text) => text.parse().unwrap_or_else(|_| panic!("{name} is not a number: {text}")),
+        Err(_) => default,
+    }
+}
+
+#[test]
+fn kernel_and_second_implementation_agree() {
+    let first = asked("SEED", 0);
+    let count = asked("COUNT", 100_000);
+    let mut refused = [0u64; 10];
+    for seed in first..first + count {
+        let case = generator::case(seed);
+        let mut patch = case.patch.clone();
+        let answer = solve(&case.job, &mut patch);
+        if let Err(fault) = checker::check(&case.job, &case.patch, &patch, &answer) {
+            panic!("seed {seed}: {fault}");
+        }
+        refused[answer.refusal as usize] += 1;
+    }
+    println!("{count} cases from seed {first}, by refusal {refused:?}");
+    if count >= 10_000 {
+        assert!(refused.iter().all(|&n| n > 0), "a refusal was never met: {refused:?}");
+    }
+}
+
+#[test]
+fn no_drawn_arrangement_beats_a_report() {
+    let mut accepted = 0;
+    for seed in 0..asked("DRAWN", 2_000) {
+        let case = generator::case(seed);
+        let answer = solve(&case.job, &mut case.patch.clone());
+        if answer.refusal != 0 {
+            continue;
+        }
+        accepted += 1;
+        let job = Job::decode(&words_of(&case.job));
+        if let Some(beating) = sampler::first_beating(&job, &answer.account, seed, 20) {
+            panic!("seed {seed}: {beating:?}");
+        }
+    }
+    assert!(accepted > 0, "no job was accepted");
+}
+
+#[test]
+fn short_account_buffers_are_cleared() {
+    let case = generator::case(0);
+    for length in 0..ACCOUNT_BYTES {
+        let mut patch = case.patch.clone();
+        let mut account = vec![0xa5u8; length];
+        assert_eq!(call(&case.job, &mut patch, &mut account), 2);
+        assert!(account.iter().all(|&byte| byte == 0));
+        assert_eq!(patch, case.patch);
+    }
+}
+
+#[test]
+fn bytes_past_an_account_stay() {
+    for seed in 0..200 {
+        let case = generator::case(seed);
+        let mut account = vec![0xa5u8; ACCOUNT_BYTES + 16];
+        call(&case.job, &mut case.patch.clone(), &mut account);
+        assert!(account[ACCOUNT_BYTES..].iter().all(|&byte| byte == 0xa5));
+    }
+}
