@@ -7,5 +7,8 @@ fn main() {
     let dist = top.join("../../target/dist");
     println!("cargo:rustc-link-search=native={}", dist.display());
     println!("cargo:rustc-link-lib=static=hnho");
-    println!("cargo:rerun-if-changed={}", dist.join("libhnho.a").display());
+    println!(
+        "cargo:rerun-if-changed={}",
+        dist.join("libhnho.a").display()
+    );
 }

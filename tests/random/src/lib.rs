@@ -43,7 +43,8 @@ pub fn solve(job: &[u8], patch: &mut [u8]) -> Answer {
 }
 
 fn account(bytes: &[u8; ACCOUNT_BYTES]) -> Account {
-    let number = |k: usize| i64::from_le_bytes(bytes[8 * k..8 * k + 8].try_into().expect("8 bytes"));
+    let number =
+        |k: usize| i64::from_le_bytes(bytes[8 * k..8 * k + 8].try_into().expect("8 bytes"));
     let small = |k: usize| u32::try_from(number(k)).expect("a number below 2^32");
     let traffic = |value: usize, placement: usize| {
         let mut traffic = Traffic {

@@ -8,7 +8,9 @@ use second::{checker, generator, sampler};
 /// Checks COUNT cases from SEED on (environment, with these defaults).
 fn asked(name: &str, default: u64) -> u64 {
     match std::env::var(name) {
-        Ok(text) => text.parse().unwrap_or_else(|_| panic!("{name} is not a number: {text}")),
+        Ok(text) => text
+            .parse()
+            .unwrap_or_else(|_| panic!("{name} is not a number: {text}")),
         Err(_) => default,
     }
 }
@@ -29,7 +31,10 @@ fn kernel_and_second_implementation_agree() {
     }
     println!("{count} cases from seed {first}, by refusal {refused:?}");
     if count >= 10_000 {
-        assert!(refused.iter().all(|&n| n > 0), "a refusal was never met: {refused:?}");
+        assert!(
+            refused.iter().all(|&n| n > 0),
+            "a refusal was never met: {refused:?}"
+        );
     }
 }
 

@@ -18,7 +18,7 @@ same-length : tie.Need-same-length
 same-length c = search needs
 
 returns : tie.Need-returns
-returns c = short (c .before .before .before .before .if1 .taken) refl refl (c .before .before .clear .ensures)
+returns c = short (omega (arith, c .before .before .before .before .if1 .taken)) refl refl (c .before .before .clear .ensures)
 
 solve-requires : tie.Need-solve-requires
 solve-requires c κs = search needs
@@ -44,7 +44,7 @@ same-length-3 c = search needs
 returns-2 : tie.Need-returns-2
 returns-2 c =
     let a = c .before .before .before .before .before .before .before .before .solve in
-    answered (c .before .before .before .before .before .before .before .before .before .before .if1 .left) (a .result) (a .ensures) refl (c .before .before .before .write .ensures)
+    answered (omega (arith, c .before .before .before .before .before .before .before .before .before .before .if1 .left)) (a .result) (a .ensures) refl (c .before .before .before .write .ensures)
 
 pub hnho-solve-spec : {M : Type 1} → statement M
 hnho-solve-spec =
