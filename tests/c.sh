@@ -16,7 +16,7 @@ step() {
   fi
 }
 
-for tool in rt gcc g++; do
+for tool in rt gcc; do
   command -v "$tool" >/dev/null || { printf 'c.sh: FAILED: %s is not on PATH\n' "$tool" >&2; exit 2; }
 done
 
@@ -40,8 +40,12 @@ step 'the package' tools/package
 step 'the folder target/c' mkdir -p target/c
 printf '#include "hnho.h"\n' >target/c/header.c
 step 'the header as C99' header gcc -std=c99
-step 'the header as C++98' header g++ -x c++ -std=c++98 -Wno-long-long
-step 'the header as C++17' header g++ -x c++ -std=c++17
+if command -v g++ >/dev/null; then
+  step 'the header as C++98' header g++ -x c++ -std=c++98 -Wno-long-long
+  step 'the header as C++17' header g++ -x c++ -std=c++17
+else
+  printf 'c.sh: no g++ here, so the header is not tried as C++\n'
+fi
 step 'compiling examples/host.c' compile examples/host.c target/c/host
 step 'the output of examples/host.c' example
 step 'compiling tests/host_edges.c' compile tests/host_edges.c target/c/host_edges
