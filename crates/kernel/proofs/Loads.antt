@@ -7,8 +7,7 @@ use lib.Signed.{_≤ℤ_}
 use lib.ListN.{getD}
 use Rattle.exact.specs.Bounds.{Within}
 use Rattle.exact.specs.declared.Question.{Question}
-use Rattle.exact.specs.declared.Question.the-variants.{Greatest, Least}
-use Rattle.model.specs.Job.{Job, Live, normal, overload}
+use Rattle.model.specs.Job.{Job, normal, overload}
 use Rattle.model.specs.Decode.{decode, carriageway}
 use Rattle.model.specs.Dynamic.{dynamicFactor}
 use Rattle.model.specs.Lanes.{laneCount}
@@ -16,7 +15,6 @@ use Rattle.model.specs.Line.{Kind, HN, HO, axle, lineEffect}
 use Rattle.model.specs.Sections.{transverseSection}
 use Rattle.model.specs.declared.Sense.the-variants.{Raising, Lowering}
 use Rattle.model.specs.declared.Extreme.{Extreme}
-use Rattle.model.specs.declared.Traffic.{Traffic}
 use Rattle.model.proofs.Signs.{line-zero}
 use Rattle.job.specs.declared.header.Header.{Header}
 use Rattle.line.specs.Sought.{SoughtRight}

@@ -1,8 +1,7 @@
 -- From a placement over a carriageway and line effects to the job's traffic value.
-use mathlib.Core.Path.{_≡_, refl, sym, _∙_, ap, subst}
+use mathlib.Core.Path.{_≡_, sym, _∙_, ap, subst}
 use mathlib.Core.Bool.{Bool}
-use Prim.Native.Nat.{ℕ, _≤_, _<_}
-use lib.Dec.{eqb}
+use Prim.Native.Nat.{ℕ}
 use Rattle.exact.specs.declared.Question.{Question}
 use Rattle.model.specs.Job.{Job, Live, normal, overload}
 use Rattle.model.specs.Line.{Kind, HN, HO}

@@ -1,14 +1,13 @@
-use mathlib.Core.Path.{_≡_, subst}
+use mathlib.Core.Path.{subst}
 use mathlib.Core.List.{List}
-use Prim.Native.Nat.{ℕ, _≤_}
+use Prim.Native.Nat.{ℕ}
 use native.Mathlib.Omega.{arith}
-use lib.IntN.{ℤ}
 use mir.Syntax.{w64}
 use mir.Val.{toZ, ofZ}
 use Rattle.model.specs.Job.{Limit, service, ultimate}
 use Rattle.model.specs.Decode.{decode}
 use Rattle.model.specs.declared.State.{State}
-use Rattle.rows.specs.Governed.{trafficOf, LiveFits, StateFound}
+use Rattle.rows.specs.Governed.{trafficOf, StateFound}
 use Rattle.rows.specs.declared.state.Live.{Live}
 use Rattle.kernel.specs.declared.TrafficValues.{TrafficValues}
 use Rattle.kernel.specs.Parts.{ValuesRight}

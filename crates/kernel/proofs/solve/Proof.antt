@@ -13,10 +13,8 @@ use Rattle.model.specs.Sections.{lineSection, pieceLength, pieceCount}
 use Rattle.model.specs.Refusals.{Refusal, verdict}
 use Rattle.model.specs.Answered.{Answered, refused, accepted, AccountRight}
 use Rattle.model.proofs.Accepted.{clear, patch-fits}
-use Rattle.job.specs.Header.{headerOf}
 use Rattle.job.specs.declared.header.Header.{Header}
 use Rattle.job.specs.declared.refusals.Ruling.{Ruling}
-use Rattle.job.specs.Rulings.{Rules}
 use Rattle.job.proofs.Rulings.{has-header}
 use Rattle.line.specs.Fits.{LineFits}
 use Rattle.model.specs.declared.Account.{Account}

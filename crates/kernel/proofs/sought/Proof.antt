@@ -1,8 +1,8 @@
-use mathlib.Core.Path.{_≡_, sym, ap, subst}
+use mathlib.Core.Path.{sym, subst}
 use mathlib.Core.List.{List}
 use Prim.Native.Nat.{ℕ}
 use Rattle.model.specs.Decode.{decode, influenceLine}
-use Rattle.model.specs.Sections.{lineSection, pieceLength, pieceCount}
+use Rattle.model.specs.Sections.{pieceLength, pieceCount}
 use Rattle.line.specs.Fits.{LineFits}
 use Rattle.line.specs.Sought.{SoughtRight}
 use Rattle.job.specs.declared.header.Header.{Header}

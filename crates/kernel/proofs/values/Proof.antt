@@ -7,7 +7,6 @@ use Rattle.model.specs.Decode.{decode}
 use Rattle.model.specs.Line.{HN, HO}
 use Rattle.lanes.specs.Fits.{AcrossFits}
 use Rattle.lanes.specs.Traffic.{EffectsFit, Spanned}
-use Rattle.lanes.specs.declared.traffic.Effects.{Effects}
 use Rattle.kernel.specs.Parts.{effectsOf}
 use Rattle.kernel.proofs.Fits.{sized, across-fits}
 use Rattle.kernel.proofs.Loads.{effects-are, effects-fit, traffic-fits, spanned, factor-is, normal-found, overload-found}
