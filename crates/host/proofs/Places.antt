@@ -1,5 +1,5 @@
 -- A refusal's number is from 1 to 9, and its place is at most 3915, the words of the longest job: number and place fit one 64-bit number and come apart again.
-use mathlib.Core.Path.{_≡_, refl, sym, _∙_, ap, subst}
+use mathlib.Core.Path.{_≡_, refl, subst}
 use mathlib.Core.Bool.{Bool, true, false, not, _&&_}
 use mathlib.Core.Option.{Option, none, some, Option·none-ne-some, Option·some-injective}
 use mathlib.Core.List.{List}

@@ -1,15 +1,14 @@
 -- What a host may conclude from the result of a call.
-use mathlib.Core.Path.{_≡_, refl, sym, _∙_, ap, subst}
-use mathlib.Core.Option.{none, some, Option·some-ne-none}
+use mathlib.Core.Path.{_≡_, refl, sym, _∙_, ap}
+use mathlib.Core.Option.{none}
 use mathlib.Core.List.{List, _++_}
-use Prim.Native.Nat.{ℕ, _+_, _*_, _/_, _%_, _≤_, _<_}
+use Prim.Native.Nat.{ℕ, _/_, _%_, _≤_}
 use native.Mathlib.Omega.{arith}
 use lib.ListN.{length, drop, replicate}
 use Rattle.model.specs.Refusals.{verdict}
 use Rattle.model.specs.Answered.{Answered, refused, accepted, zeroAccount}
 use Rattle.model.specs.Determined.{Fixed, fixedOf}
 use Rattle.model.proofs.Determined.{determined}
-use Rattle.model.specs.declared.Account.{Account}
 use Rattle.model.specs.declared.Answer.{Answer}
 use Rattle.encode.specs.Encoding.{accountBytes, bytesOf}
 use Rattle.host.specs.Hosted.{packed, Hosted, short, answered}
