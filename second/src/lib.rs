@@ -21,6 +21,7 @@ pub mod rows;
 pub mod sampler;
 pub mod sections;
 pub mod solve;
+pub mod store;
 pub mod traffic;
 pub mod words;
 

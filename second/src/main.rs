@@ -2,7 +2,7 @@
 //! its four lines, or `refused NUMBER at PLACE`. Further commands are in USAGE.
 
 use second::job::Job;
-use second::{generator, job_a, report, sampler, solve, words};
+use second::{generator, job_a, report, sampler, solve, store, words};
 use std::fs;
 use std::io::{self, Read, Write};
 use std::path::Path;
@@ -15,6 +15,9 @@ const USAGE: &str = "usage:
   second job-a                     write Job A's bytes to standard output
   second generate SEED COUNT DIR   write COUNT cases from SEED on into DIR,
                                    as SEED.job and SEED.patch
+  second store SEED COUNT DIR      write COUNT cases from SEED on, most of them
+                                   short, into DIR/jobs, and what is due for
+                                   each into DIR/expected
 ";
 
 /// The most bytes of standard input that are read.
@@ -65,6 +68,10 @@ fn run(arguments: &[&str]) -> Result<(), Failure> {
         ["generate", seed, count, directory] => {
             generate(number(seed)?, number(count)?, Path::new(directory))
         }
+        ["store", seed, count, directory] => {
+            let count = usize::try_from(number(count)?).map_err(|_| Failure::Usage)?;
+            store(number(seed)?, count, Path::new(directory))
+        }
         _ => Err(Failure::Usage),
     }
 }
@@ -91,13 +98,21 @@ fn generate(first: u64, count: u64, directory: &Path) -> Result<(), Failure> {
     for seed in first..past_last {
         let case = generator::case(seed);
         for (ending, bytes) in [("job", &case.job), ("patch", &case.patch)] {
-            let path = directory.join(format!("{seed}.{ending}"));
-            fs::write(&path, bytes).map_err(|error| {
-                Failure::Other(format!("cannot write {}: {error}", path.display()))
-            })?;
+            write_file(&directory.join(format!("{seed}.{ending}")), bytes)?;
         }
     }
     Ok(())
+}
+
+fn store(first: u64, count: usize, directory: &Path) -> Result<(), Failure> {
+    let stored = store::stored(first, count).ok_or(Failure::Usage)?;
+    write_file(&directory.join("jobs"), &stored.jobs)?;
+    write_file(&directory.join("expected"), stored.expected.as_bytes())
+}
+
+fn write_file(path: &Path, bytes: &[u8]) -> Result<(), Failure> {
+    fs::write(path, bytes)
+        .map_err(|error| Failure::Other(format!("cannot write {}: {error}", path.display())))
 }
 
 fn read_job() -> Result<Vec<u8>, Failure> {

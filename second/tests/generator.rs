@@ -444,6 +444,20 @@ fn the_cases_reach_every_refusal_and_shape() {
     assert!(missed.is_empty(), "never reached: {missed:?}");
 }
 
+/// The count that tests/stored.sh of the kernel stores from seed 0 on.
+const STORED_CASES: usize = 1700;
+
+#[test]
+fn the_stored_cases_reach_every_refusal_and_shape() {
+    let mut reached = BTreeSet::new();
+    for case in second::store::cases(0).take(STORED_CASES) {
+        let answer = solve(&case.job, &mut case.patch.clone());
+        reached.extend(labels(&case, &answer));
+    }
+    let missed: Vec<_> = expected_labels().difference(&reached).cloned().collect();
+    assert!(missed.is_empty(), "never reached: {missed:?}");
+}
+
 /// A single fault nearly always gets its own refusal; the count's fault may
 /// leave the count as it was or make the line too long.
 #[test]

@@ -180,6 +180,36 @@ fn generate_writes_the_cases_of_its_seeds() {
     assert!(output.stderr.starts_with(b"second: cannot write"));
 }
 
+/// The cases in one file and what is due for each in the other, read back.
+#[test]
+fn store_writes_cases_and_what_is_due_for_each() {
+    let directory = scratch("stored");
+    fs::create_dir_all(&directory).unwrap();
+    let output = second(
+        &["store", "7", "40", directory.to_str().unwrap()],
+        Stdio::null(),
+    );
+    prints(&output, "");
+    let mut jobs = &fs::read(directory.join("jobs")).unwrap()[..];
+    let mut due = String::new();
+    for case in second::store::cases(7).take(40) {
+        let length = |at: usize| usize::from(u16::from_le_bytes([jobs[at], jobs[at + 1]]));
+        let (job_bytes, patch_bytes) = (length(0), length(2));
+        let (patch, rest) = jobs[4..].split_at(patch_bytes);
+        let (job, rest) = rest.split_at(job_bytes);
+        assert_eq!((job, patch), (&case.job[..], &case.patch[..]));
+        jobs = rest;
+
+        let mut patch = case.patch.clone();
+        due += &second::report::report(&second::solve(job, &mut patch));
+        let numbered = patch.iter().enumerate();
+        let sum: usize = numbered.map(|(i, &byte)| (i + 1) * usize::from(byte)).sum();
+        due += &format!("patch {sum}\n");
+    }
+    assert!(jobs.is_empty());
+    assert_eq!(fs::read_to_string(directory.join("expected")).unwrap(), due);
+}
+
 #[test]
 fn unknown_arguments_are_a_usage_error() {
     for arguments in [
@@ -189,6 +219,9 @@ fn unknown_arguments_are_a_usage_error() {
         &[""],
         &["generate", "1", "2"],
         &["generate", "-1", "2", "."],
+        &["store", "1", "2"],
+        &["store", "1", "-2", "."],
+        &["store", "18446744073709551615", "2", "."],
         &["generate", "18446744073709551615", "1", "."],
         &["beat", "1", "4294967296"],
         &["beat", "one", "1"],

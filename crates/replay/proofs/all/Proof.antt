@@ -1,0 +1,34 @@
+-- The loop ends because the number of cases left falls; nothing has to hold from turn to turn.
+use native.Mathlib.Omega.{arith}
+use Rattle.replay.proofs.all.Statement.{statement}
+use Rattle.replay.proofs.all.Tie as tie
+
+abbrev Inv-loop : tie.InvT-loop
+Inv-loop fd left₀ left = Unit {0}
+
+abbrev μ-loop : tie.MeasureT-loop
+μ-loop fd left₀ left = left
+
+loop-holds : tie.Need-loop-holds Inv-loop μ-loop
+loop-holds c = tt
+
+one-requires : tie.Need-one-requires Inv-loop μ-loop
+one-requires c κs = tt
+
+sub-left : tie.Need-sub-left Inv-loop μ-loop
+sub-left c = omega arith
+
+loop-less : tie.Need-loop-less Inv-loop μ-loop
+loop-less c = omega arith
+
+loop-again : tie.Need-loop-again Inv-loop μ-loop
+loop-again c = tt
+
+returns : tie.Need-returns Inv-loop μ-loop
+returns c = tt
+
+returns-2 : tie.Need-returns-2 Inv-loop μ-loop
+returns-2 c = tt
+
+pub all-spec : {M : Type 1} → statement M
+all-spec = tie.close (tie.spec Inv-loop μ-loop loop-holds one-requires sub-left loop-less loop-again returns returns-2)

@@ -1,0 +1,55 @@
+use Prim.Native.Nat.{_+_, _*_, _-_, _≤_}
+use lib.ListN.{length}
+use native.Mathlib.Omega.{arith}
+use Rattle.replay.proofs.weighted_sum.Statement.{statement}
+use Rattle.replay.proofs.weighted_sum.Tie as tie
+
+-- each byte adds at most 65535 times 255
+abbrev Inv-loop : tie.InvT-loop
+Inv-loop bytes sum₀ i₀ i-end sum i = (i ≤ i-end) × (sum ≤ i * 16711425)
+
+abbrev μ-loop : tie.MeasureT-loop
+μ-loop bytes sum₀ i₀ i-end sum i = i-end - i
+
+loop-holds : tie.Need-loop-holds Inv-loop μ-loop
+loop-holds c = (omega arith, omega arith)
+
+add-weighed : tie.Need-add-weighed Inv-loop μ-loop
+add-weighed c = omega arith
+
+shared-slice-read-weighed : tie.Need-shared-slice-read-weighed Inv-loop μ-loop
+shared-slice-read-weighed c = omega arith
+
+weighed-requires : tie.Need-weighed-requires Inv-loop μ-loop
+weighed-requires c κs = omega arith
+
+add-sum : tie.Need-add-sum Inv-loop μ-loop
+add-sum c = omega arith
+
+add-i : tie.Need-add-i Inv-loop μ-loop
+add-i c = omega arith
+
+loop-less : tie.Need-loop-less Inv-loop μ-loop
+loop-less c = omega arith
+
+loop-again : tie.Need-loop-again Inv-loop μ-loop
+loop-again c = (omega arith, omega arith)
+
+returns : tie.Need-returns Inv-loop μ-loop
+returns c = tt
+
+pub weighted-sum-spec : {M : Type 1} → statement M
+weighted-sum-spec =
+    tie.close
+    (tie.spec
+    Inv-loop
+    μ-loop
+    loop-holds
+    add-weighed
+    shared-slice-read-weighed
+    weighed-requires
+    add-sum
+    add-i
+    loop-less
+    loop-again
+    returns)
