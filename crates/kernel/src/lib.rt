@@ -10,6 +10,7 @@ use lanes::dynamic;
 use lanes::traffic;
 use lanes::traffic::Effects;
 use line::effect;
+use line::effect::Senses;
 use line::effect::Sought;
 use line::pieces;
 use model::Account;
@@ -32,7 +33,7 @@ ghost use Rattle.exact.specs.Bounds.{Within};
 ghost use Rattle.model.specs.Decode.{decode, limitOf};
 ghost use Rattle.model.specs.Line.{HN, HO, axle};
 ghost use Rattle.model.specs.Answered.{zeroTraffic, refusalAnswer, Answered};
-ghost use Rattle.line.specs.Sought.{SoughtNear, SoughtRight};
+ghost use Rattle.line.specs.Sought.{SoughtNear, SoughtRight, SensesRight};
 ghost use Rattle.rows.specs.Governed.{trafficOf, LiveFits, StateFound};
 ghost use Rattle.kernel.specs.Parts.{Ready, ValuesRight, PartsRight};
 
@@ -81,12 +82,12 @@ fn refused(number: u32, place: usize) -> Answer
     }
 }
 
-// What is sought of the line for a sense.
-fn sought(job: &[u8], head: Header, sense: Sense) -> Sought
+// What each sense seeks of the line.
+fn sought(job: &[u8], head: Header) -> Senses
     requires { ⌜ Ready (now job) head ⌝ }
-    ensures { λ r. ⌜ SoughtRight (decode (now (job .entry)) .line) sense r ⌝ }
+    ensures { λ r. ⌜ SensesRight (decode (now (job .entry)) .line) r ⌝ }
 {
-    effect::seek(sections::line(job, head), head.h, head.pieces, sense)
+    effect::seek(sections::line(job, head), head.h, head.pieces)
 }
 
 // The HN line effects.
@@ -171,8 +172,9 @@ fn account(job: &[u8], head: Header) -> Account
     requires { ⌜ Ready (now job) head ⌝ }
     ensures { λ r. ⌜ PartsRight (decode (now (job .entry))) r ⌝ }
 {
-    let raising = sought(job, head, Sense::Raising);
-    let lowering = sought(job, head, Sense::Lowering);
+    let senses = sought(job, head);
+    let raising = senses.raising;
+    let lowering = senses.lowering;
     let v = values(job, head, raising, lowering);
     let normal = v.normal;
     let overload = v.overload;

@@ -6,13 +6,14 @@ use lib.IntN.{ℤ, pos}
 use Rattle.exact.specs.Choice.{if_then_else_}
 use Rattle.exact.specs.Questions.{better, beats}
 use Rattle.exact.specs.declared.Question.{Question}
+use Rattle.exact.specs.declared.Question.the-variants.{Greatest, Least}
 use Rattle.exact.proofs.Bridge.{by-test, ℕ→≤, subbed, up-neg, dn-neg}
 use Rattle.exact.proofs.Extremes.{beats-yes, beats-no}
 use Rattle.model.specs.Job.{InfluenceLine}
 use Rattle.model.specs.Line.{axleSpacing, station, bestPair}
 use Rattle.model.specs.Answered.{PositionRight}
 use Rattle.model.specs.declared.Sense.{Sense}
-use Rattle.line.specs.Stands.{Stands}
+use Rattle.line.specs.Stands.{Stands, RangeRight}
 use Rattle.line.specs.declared.pair.Stand.{Stand}
 
 -- a stand with the sense's best pair is a right position: at most an axle spacing before the line, and not past its right end
@@ -34,6 +35,11 @@ module _ {line : InfluenceLine} where
 
   pub stands-as : {m : ℕ} {v w : ℤ} {s : Stand} → Stands line m v s → v ≡ w → Stands line m w s
   stands-as {m} {s = s} p e = subst (λ (x : ℤ). Stands line m x s) e p
+
+  -- a stand alone is a range
+  pub stands-alone : {m : ℕ} {v : ℤ} {s : Stand} → Stands line m v s → RangeRight line m (λ q. v) (record { greatest = s; least = s })
+  stands-alone p Greatest = p
+  stands-alone p Least = p
 
   pub stands-better : (q : Question) {m : ℕ} {v w : ℤ} {a b : Stand} → Stands line m v a → Stands line m w b →
       Stands line m (better q v w) (if beats q (b .value) (a .value) then b else a)

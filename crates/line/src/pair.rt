@@ -7,10 +7,11 @@ ghost use lib.IntN.{pos};
 ghost use Rattle.exact.specs.Bounds.{Within};
 ghost use Rattle.exact.specs.Choice.{if_then_else_};
 ghost use Rattle.exact.specs.Questions.{beats as beatsFor, extreme};
+ghost use Rattle.exact.specs.declared.Question.{Question};
 ghost use Rattle.model.specs.Decode.{influenceLine};
 ghost use Rattle.model.specs.Line.{ordinate as ordinateAt};
 ghost use Rattle.line.specs.Fits.{LineFits};
-ghost use Rattle.line.specs.Stands.{pairAt, betterSide, Stands};
+ghost use Rattle.line.specs.Stands.{pairAt, betterSide, standFor, RangeRight};
 
 // The pair's axles are 50 dm apart: so many pieces.
 pub fn spacing(h: usize) -> usize
@@ -82,47 +83,77 @@ fn choose(q: Question, a: Stand, b: Stand) -> Stand
     ensures { λ r. ⌜ r ≡ (if beatsFor q (b .value) (a .value) then b else a) ⌝ }
 {
     if exact::beats(q, b.value, a.value) {
-        return b;
+        let side = b.side;
+        return Stand {
+            value: b.value,
+            station: b.station,
+            side,
+        };
     }
-    a
-}
-
-// The pair at station s, from one side.
-fn at_side(line: &[u8], h: usize, n: usize, s: usize, side: Side) -> Stand
-    requires { ⌜ LineFits (now line) n ⌝ }
-    requires { ⌜ 1 ≤ h ⌝ }
-    ensures { λ r. ⌜ Stands (influenceLine (now (line .entry)) h n) s (pairAt (influenceLine (now (line .entry)) h n) s side) r ⌝ }
-{
-    let value = ordinates(line, h, n, s, side);
+    let side = a.side;
     Stand {
-        value,
-        station: s,
+        value: a.value,
+        station: a.station,
         side,
     }
 }
 
-// The pair at station s, from its better side.
-fn at_station(q: Question, line: &[u8], h: usize, n: usize, s: usize) -> Stand
+// Where the pair's ordinates are greatest and where they are least.
+pub struct Range {
+    pub greatest: Stand,
+    pub least: Stand,
+}
+
+// The range that two make, the first at a tie.
+fn wider(a: Range, b: Range) -> Range
+    ensures { λ r. ⌜ ((q : Question) → standFor q r ≡ (if beatsFor q (standFor q b .value) (standFor q a .value) then standFor q b else standFor q a)) ⌝ }
+{
+    Range {
+        greatest: choose(Question::Greatest, a.greatest, b.greatest),
+        least: choose(Question::Least, a.least, b.least),
+    }
+}
+
+// The pair at station s, from one side.
+fn at_side(line: &[u8], h: usize, n: usize, s: usize, side: Side) -> Range
     requires { ⌜ LineFits (now line) n ⌝ }
     requires { ⌜ 1 ≤ h ⌝ }
-    ensures { λ r. ⌜ Stands (influenceLine (now (line .entry)) h n) s (betterSide q (influenceLine (now (line .entry)) h n) s) r ⌝ }
+    ensures { λ r. ⌜ RangeRight (influenceLine (now (line .entry)) h n) s (λ q. pairAt (influenceLine (now (line .entry)) h n) s side) r ⌝ }
+{
+    let value = ordinates(line, h, n, s, side);
+    let stand = Stand {
+        value,
+        station: s,
+        side,
+    };
+    Range {
+        greatest: stand,
+        least: stand,
+    }
+}
+
+// The pair at station s, from its better side for each question.
+fn at_station(line: &[u8], h: usize, n: usize, s: usize) -> Range
+    requires { ⌜ LineFits (now line) n ⌝ }
+    requires { ⌜ 1 ≤ h ⌝ }
+    ensures { λ r. ⌜ RangeRight (influenceLine (now (line .entry)) h n) s (λ q. betterSide q (influenceLine (now (line .entry)) h n) s) r ⌝ }
 {
     let left = at_side(line, h, n, s, Side::Left);
     let right = at_side(line, h, n, s, Side::Right);
-    choose(q, left, right)
+    wider(left, right)
 }
 
 // The best over all stations and both sides.
-pub fn best(q: Question, line: &[u8], h: usize, n: usize) -> Stand
+pub fn best(line: &[u8], h: usize, n: usize) -> Range
     requires { ⌜ LineFits (now line) n ⌝ }
     requires { ⌜ 1 ≤ h ⌝ }
-    ensures { λ r. ⌜ Stands (influenceLine (now (line .entry)) h n) (n + 50 / h) (extreme q (n + 50 / h) (betterSide q (influenceLine (now (line .entry)) h n))) r ⌝ }
+    ensures { λ r. ⌜ RangeRight (influenceLine (now (line .entry)) h n) (n + 50 / h) (λ q. extreme q (n + 50 / h) (betterSide q (influenceLine (now (line .entry)) h n))) r ⌝ }
 {
     let last = n + spacing(h);
-    let mut best = at_station(q, line, h, n, 0);
+    let mut best = at_station(line, h, n, 0);
     for s in 0..last {
-        let next = at_station(q, line, h, n, s + 1);
-        best = choose(q, best, next);
+        let next = at_station(line, h, n, s + 1);
+        best = wider(best, next);
     }
     best
 }

@@ -6,8 +6,9 @@ ghost use Prim.Native.Nat.{ℕ, _*_, _≤_};
 ghost use lib.ListN.{length, drop};
 ghost use Rattle.exact.specs.Bounds.{Within};
 ghost use Rattle.model.specs.Decode.{pieceAt, influenceLine};
-ghost use Rattle.model.specs.Line.{endSum, patchByte, patchBytes, loadedByte, loadedSum, uniformPart};
+ghost use Rattle.model.specs.Line.{endSum, patchByte, patchBytes, loadedByte, loadedSum};
 ghost use Rattle.line.specs.Fits.{PieceFits, LineFits};
+ghost use Rattle.line.specs.Sought.{UniformRight};
 
 // Piece i's ordinate sum a + b.
 fn end_sum(line: &[u8], i: usize) -> i64
@@ -53,17 +54,29 @@ fn loaded_sum(line: &[u8], i: usize, sense: Sense) -> i64
     0
 }
 
-// The uniform load of a sense's whole pieces, in 75 N·U.
-pub fn uniform_part(line: &[u8], h: usize, n: usize, sense: Sense) -> i64
+// The uniform load of each sense, in 75 N·U.
+pub struct Uniform {
+    pub raising: i64,
+    pub lowering: i64,
+}
+
+// Of each sense's whole pieces.
+pub fn uniform_parts(line: &[u8], h: usize, n: usize) -> Uniform
     requires { ⌜ LineFits (now line) n ⌝ }
     requires { ⌜ (h ≤ 50) × (n * h ≤ 1000) ⌝ }
-    ensures { λ r. ⌜ (r ≡ uniformPart (influenceLine (now (line .entry)) h n) sense) × Within 70000000 r ⌝ }
+    ensures { λ r. ⌜ UniformRight (influenceLine (now (line .entry)) h n) r ⌝ }
 {
-    let mut sum: i64 = 0;
+    let mut raising: i64 = 0;
+    let mut lowering: i64 = 0;
     for i in 0..n {
-        sum += loaded_sum(line, i, sense);
+        raising += loaded_sum(line, i, Sense::Raising);
+        lowering += loaded_sum(line, i, Sense::Lowering);
     }
-    model::UNIFORM * (h as i64) * sum
+    let unit = model::UNIFORM * (h as i64);
+    Uniform {
+        raising: unit * raising,
+        lowering: unit * lowering,
+    }
 }
 
 // Writes a byte a piece; later bytes stay.

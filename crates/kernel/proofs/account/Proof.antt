@@ -6,6 +6,7 @@ use mir.Syntax.{w64}
 use mir.Val.{toZ, ofZ}
 use Rattle.model.specs.Job.{Limit, service, ultimate}
 use Rattle.model.specs.Decode.{decode}
+use Rattle.model.specs.declared.Sense.the-variants.{Raising, Lowering}
 use Rattle.model.specs.declared.State.{State}
 use Rattle.rows.specs.Governed.{trafficOf, StateFound}
 use Rattle.rows.specs.declared.state.Live.{Live}
@@ -24,16 +25,15 @@ use Rattle.kernel.proofs.values.Reads as values-reads
 sought-requires : tie.Need-sought-requires
 sought-requires c κs = search needs
 
-sought-requires-2 : tie.Need-sought-requires-2
-sought-requires-2 c κs = search needs
-
 values-requires : tie.Need-values-requires
-values-requires c κs = search needs
+values-requires c κs =
+    let s = c .before .before .sought .ensures in
+    (c .before .before .before .before .pre, (s Raising, s Lowering))
 
 limit-state-requires : tie.Need-limit-state-requires
 limit-state-requires c κs =
     let v = c .before .before .before .before .before .before .before .before .before .before .values .ensures in (
-      c .before .before .before .before .before .before .before .before .before .before .before .before .before .before .pre,
+      c .before .before .before .before .before .before .before .before .before .before .before .before .before .before .before .pre,
       (near-back (v .normal .nearGreatest), near-back (v .overload .nearGreatest)),
       (near-back (v .normal .nearLeast), near-back (v .overload .nearLeast)),
       omega arith,
@@ -43,7 +43,7 @@ limit-state-requires c κs =
 limit-state-requires-2 : tie.Need-limit-state-requires-2
 limit-state-requires-2 c κs =
     let v = c .before .before .before .before .before .before .before .before .before .before .before .values .ensures in (
-      c .before .before .before .before .before .before .before .before .before .before .before .before .before .before .before .pre,
+      c .before .before .before .before .before .before .before .before .before .before .before .before .before .before .before .before .pre,
       (near-back (v .normal .nearGreatest), near-back (v .overload .nearGreatest)),
       (near-back (v .normal .nearLeast), near-back (v .overload .nearLeast)),
       omega arith,
@@ -66,14 +66,14 @@ returns : tie.Need-returns
 returns c =
     let v = c .before .before .before .before .before .before .before .before .before .before .before .before .before .before .values .ensures in
     let x = c .before .before .before .before .before .before .before .before .before .before .before .before .before .before .values .result in
-    let b = c .before .before .before .before .before .before .before .before .before .before .before .before .before .before .before .before .before .before .args .job .now in
+    let b = c .before .before .before .before .before .before .before .before .before .before .before .before .before .before .before .before .before .before .before .args .job .now in
     record {
       normalGreatest = v .normal .greatest;
       normalLeast = v .normal .least;
       overloadGreatest = v .overload .greatest;
       overloadLeast = v .overload .least;
-      raising = c .before .before .before .before .before .before .before .before .before .before .before .before .before .before .before .before .sought .ensures .position;
-      lowering = c .before .before .before .before .before .before .before .before .before .before .before .before .before .before .before .sought2 .ensures .position;
+      raising = c .before .before .before .before .before .before .before .before .before .before .before .before .before .before .before .before .before .sought .ensures Raising .position;
+      lowering = c .before .before .before .before .before .before .before .before .before .before .before .before .before .before .before .before .before .sought .ensures Lowering .position;
       service = handed b x v service (c .before .before .before .limit-state .result) (c .before .before .before .limit-state .ensures);
       ultimate = handed b x v ultimate (c .before .before .limit-state2 .result) (c .before .before .limit-state2 .ensures);
     }
@@ -83,7 +83,6 @@ account-spec =
     tie.close
     (tie.spec
     sought-requires
-    sought-requires-2
     values-requires
     limit-state-requires
     limit-state-requires-2

@@ -4,7 +4,7 @@ use Prim.Native.Nat.{ℕ}
 use Rattle.model.specs.Decode.{decode, influenceLine}
 use Rattle.model.specs.Sections.{pieceLength, pieceCount}
 use Rattle.line.specs.Fits.{LineFits}
-use Rattle.line.specs.Sought.{SoughtRight}
+use Rattle.line.specs.Sought.{SensesRight}
 use Rattle.job.specs.declared.header.Header.{Header}
 use Rattle.kernel.proofs.Fits.{sized, line-fits, line-limits}
 use Rattle.kernel.proofs.sought.Statement.{statement}
@@ -27,8 +27,8 @@ unfolding decode
 returns c =
     let s = c .before .before .before in
     let b = s .args .job .now in
-    subst (λ (l : List ℕ). SoughtRight (influenceLine l (pieceLength b) (pieceCount b)) (s .args .sense) (c .seek .result)) (c .before .line .ensures)
-    (subst (λ (h : Header). SoughtRight (influenceLine (c .before .line .result .now) (h .h) (h .pieces)) (s .args .sense) (c .seek .result)) (s .pre .own) (c .seek .ensures))
+    subst (λ (l : List ℕ). SensesRight (influenceLine l (pieceLength b) (pieceCount b)) (c .seek .result)) (c .before .line .ensures)
+    (subst (λ (h : Header). SensesRight (influenceLine (c .before .line .result .now) (h .h) (h .pieces)) (c .seek .result)) (s .pre .own) (c .seek .ensures))
 
 pub sought-spec : {M : Type 1} → statement M
 sought-spec = tie.close (tie.spec line-requires seek-requires returns)

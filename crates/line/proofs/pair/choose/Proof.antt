@@ -1,10 +1,10 @@
 use mathlib.Core.Path.{_≡_, refl, sym, _∙_, ap₂}
-use Prim.Native.Nat.{_<_, _^_}
 use native.Mathlib.Omega.{arith}
-use lib.Signed.{mag}
 use mir.Syntax.{w64}
+use mir.Val.{toZ, ofZ}
 use Rattle.exact.specs.Questions.{beats}
 use Rattle.exact.proofs.Held.{any, ok-fits}
+use Rattle.line.specs.declared.pair.Stand.{Stand}
 use borrow.Author.Needs.{needs}
 use Rattle.line.proofs.pair.choose.Statement.{statement}
 use Rattle.line.proofs.pair.choose.Tie as tie
@@ -12,19 +12,29 @@ use Rattle.line.proofs.pair.choose.Tie as tie
 beats-requires : tie.Need-beats-requires
 beats-requires c κs = search needs
 
--- the test's answer is that of the two values
-tested : (c : tie.After-beats) → beats (c .before .before .before .args .q) (c .before .before .before .args .b .value) (c .before .before .before .args .a .value) ≡ c .beats .result
-tested c =
-    let s = c .before .before .before .args in
-    let a : mag (s .a .value) < 2 ^ 63 = omega arith in
-    let b : mag (s .b .value) < 2 ^ 63 = omega arith in
-    ap₂ (beats (s .q)) (sym (any (ok-fits w64 (s .b .value) b) .is)) (sym (any (ok-fits w64 (s .a .value) a) .is)) ∙ sym (c .beats .ensures)
+module _ (c : tie.After-beats) where
+  abbrev first : Stand
+  first = c .before .before .before .args .a
+
+  abbrev second : Stand
+  second = c .before .before .before .args .b
+
+  -- the values as they are read
+  first-read : toZ w64 (ofZ w64 (first .value)) ≡ first .value
+  first-read = any (ok-fits w64 (first .value) (omega arith)) .is
+
+  second-read : toZ w64 (ofZ w64 (second .value)) ≡ second .value
+  second-read = any (ok-fits w64 (second .value) (omega arith)) .is
+
+  -- the test's answer is that of the two values
+  tested : beats (c .before .before .before .args .q) (second .value) (first .value) ≡ c .beats .result
+  tested = ap₂ (beats (c .before .before .before .args .q)) (sym second-read) (sym first-read) ∙ sym (c .beats .ensures)
 
 returns : tie.Need-returns
-returns c = rw (tested (c .before) ∙ c .if1 .taken) refl
+returns c = let t = c .before .before in rw (tested t ∙ c .before .if1 .taken, second-read t) refl
 
 returns-2 : tie.Need-returns-2
-returns-2 c = rw (tested (c .before) ∙ c .if1 .left) refl
+returns-2 c = let t = c .before .before in rw (tested t ∙ c .before .if1 .left, first-read t) refl
 
 pub choose-spec : {M : Type 1} → statement M
 choose-spec = tie.close (tie.spec beats-requires returns returns-2)
