@@ -1,11 +1,11 @@
 -- Two numbers that are handed on in a struct are read back as they were.
-use mathlib.Core.Path.{_≡_, sym, ap₂, subst}
+use mathlib.Core.Path.{_≡_, ap₂}
 use lib.Dec.{lit<}
 use lib.IntN.{ℤ}
 use mir.Syntax.{w64}
 use mir.Val.{toZ, ofZ}
 use Rattle.exact.specs.Bounds.{Within}
-use Rattle.exact.proofs.Held.{known}
+use Rattle.exact.proofs.Held.{known, told}
 use Rattle.rows.specs.declared.state.Live.{Live}
 
 -- a number near enough, read back
@@ -13,7 +13,7 @@ back : {z : ℤ} → Within 1000000000000 z → toZ w64 (ofZ w64 z) ≡ z
 back n = known w64 n (lit< tt) .is
 
 pub near-back : {z : ℤ} → Within 1000000000000 z → Within 1000000000000 (toZ w64 (ofZ w64 z))
-near-back n = subst (Within 1000000000000) (sym (back n)) n
+near-back n = told (known w64 n (lit< tt)) .1
 
 abbrev pub pairOf : ℤ → ℤ → Live
 pairOf x y = record { normal = x; overload = y }

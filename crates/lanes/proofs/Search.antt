@@ -4,13 +4,10 @@ use mathlib.Core.Bool.{Bool}
 use Prim.Native.Nat.{ℕ, _+_, _-_, _≤_}
 use native.Mathlib.Omega.{arith}
 use lib.IntN.{ℤ}
-use mir.Syntax.{w64}
-use mir.Val.{toZ}
 use Rattle.exact.specs.Choice.{if_then_else_}
 use Rattle.exact.specs.Questions.{better, beats, extreme}
 use Rattle.exact.specs.declared.Question.{Question}
 use Rattle.exact.proofs.Bridge.{by-test}
-use Rattle.exact.proofs.Held.{Held}
 use Rattle.exact.proofs.Extremes.{beats-yes, beats-no, extreme-step}
 
 -- x is fine, and its value is the best of f 0 .. f m
@@ -36,7 +33,3 @@ best-more {A} q value Fine f k x y r h b fine e is =
         let same : m + 1 ≡ (k + 1) - 1 = omega arith in
         subst (λ (j : ℕ). better q (value x) (value y) ≡ extreme q j f) same
         (ap₂ (better q) (b .best) (subst (λ (j : ℕ). value y ≡ f j) (sym up) e) ∙ sym (extreme-step q m f))
-
--- what a comparison of two held numbers answers
-pub beats-held : (q : Question) {m n a b : ℕ} {x y : ℤ} {r t : Bool} → Held w64 m a x → Held w64 n b y → r ≡ beats q (toZ w64 m) (toZ w64 n) → r ≡ t → beats q x y ≡ t
-beats-held q x y e h = sym (ap₂ (beats q) (x .is) (y .is)) ∙ sym e ∙ h

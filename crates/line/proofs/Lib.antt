@@ -1,4 +1,3 @@
-pub mod Told
 pub mod Fitting
 pub mod Marks
 pub mod Axles

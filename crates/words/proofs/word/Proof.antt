@@ -1,8 +1,7 @@
-use mathlib.Core.Path.{_≡_, sym, _∙_, ap, subst}
+use mathlib.Core.Path.{_∙_, ap}
 use lib.Dec.{lit<}
 use mir.Syntax.{w32, w64}
-use Rattle.exact.specs.Bounds.{Within}
-use Rattle.exact.proofs.Held.{any, ok-fits, cast!, cast}
+use Rattle.exact.proofs.Held.{any, ok-fits, told, cast!, cast}
 use Rattle.model.specs.Words.{signed32, wordAt}
 use borrow.Author.Needs.{needs}
 use Rattle.words.proofs.word.Statement.{statement}
@@ -28,7 +27,7 @@ returns : tie.Need-returns
 unfolding wordAt
 returns c =
     let h = cast (any (ok-fits w32 (c .to-signed .result) (c .to-signed .ok))) w64 (lit< tt) in
-    (h .is ∙ c .to-signed .ensures ∙ ap signed32 (c .before .bits-at .ensures), subst (Within 2147483648) (sym (h .is)) (h .near))
+    (h .is ∙ c .to-signed .ensures ∙ ap signed32 (c .before .bits-at .ensures), told h .1)
 
 pub word-spec : {M : Type 1} → statement M
 word-spec =

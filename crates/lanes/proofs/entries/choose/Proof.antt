@@ -7,13 +7,12 @@ use Rattle.exact.specs.Bounds.{Within}
 use Rattle.exact.specs.Questions.{beats}
 use Rattle.exact.specs.declared.Question.{Question}
 use Rattle.exact.proofs.Extremes.{beats-yes, beats-no}
-use Rattle.exact.proofs.Held.{Kept, arg, known, retold, times, times! }
+use Rattle.exact.proofs.Held.{Kept, arg, known, retold, beats-held, times, times! }
 use Rattle.model.proofs.Centre.{other}
 use Rattle.lanes.specs.declared.centres.Centre.{Centre}
 use Rattle.lanes.specs.declared.centres.Span.{Span}
 use Rattle.lanes.specs.Entries.{bestOf, SpanNear}
 use Rattle.lanes.proofs.Elements.{near-of}
-use Rattle.lanes.proofs.Search.{beats-held}
 use Rattle.lanes.proofs.entries.choose.Statement.{statement}
 use Rattle.lanes.proofs.entries.choose.Tie as tie
 use Rattle.lanes.proofs.entries.choose.Reads as reads
@@ -73,7 +72,7 @@ beats-requires c κs = search needs
 returns : tie.Need-returns
 returns c =
     let w = c .before .before .before .before .before .before in
-    let e = beats-held (q w) (down w .1) (up w .1) (c .before .beats .ensures) (c .if1 .taken) in
+    let e = beats-held (down w .1) (up w .1) (q w) (c .before .beats .ensures) (c .if1 .taken) in
     record {
       best = down w .1 .is ∙ sym (beats-yes (q w) _ _ e .1);
       gives = sym (down w .1 .is);
@@ -83,7 +82,7 @@ returns c =
 returns-2 : tie.Need-returns-2
 returns-2 c =
     let w = c .before .before .before .before .before .before in
-    let e = beats-held (q w) (down w .1) (up w .1) (c .before .beats .ensures) (c .if1 .left) in
+    let e = beats-held (down w .1) (up w .1) (q w) (c .before .beats .ensures) (c .if1 .left) in
     record {
       best = up w .1 .is ∙ sym (beats-no (q w) _ _ e .1);
       gives = sym (up w .1 .is);

@@ -7,8 +7,7 @@ use mir.Syntax.{w64}
 use borrow.Author.Needs.{needs}
 use Rattle.exact.specs.Choice.{if_then_else_}
 use Rattle.exact.specs.Questions.{beats}
-use Rattle.exact.proofs.Held.{any, ok-fits}
-use Rattle.lanes.proofs.Search.{beats-held}
+use Rattle.exact.proofs.Held.{any, ok-fits, beats-held}
 use Rattle.lanes.specs.Sets.{sumAt}
 use Rattle.lanes.proofs.sets.better_set.Statement.{statement}
 use Rattle.lanes.proofs.sets.better_set.Tie as tie
@@ -42,7 +41,7 @@ module _ (c : tie.After-beats) where
       let b = sumAt (s .args .t2) (s .args .b) in
       let ha : mag a < 2 ^ 63 = omega arith in
       let hb : mag b < 2 ^ 63 = omega arith in
-      ap (λ (t : Bool). if t then s .args .b else s .args .a) (sym (beats-held (s .args .q) (any (ok-fits w64 b hb)) (any (ok-fits w64 a ha)) (c .beats .ensures) e))
+      ap (λ (t : Bool). if t then s .args .b else s .args .a) (sym (beats-held (any (ok-fits w64 b hb)) (any (ok-fits w64 a ha)) (s .args .q) (c .beats .ensures) e))
 
 returns : tie.Need-returns
 returns c = told (c .before) (c .if1 .taken)

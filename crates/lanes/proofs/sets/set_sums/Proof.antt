@@ -8,7 +8,7 @@ use mir.Val.{toZ, ofZ}
 use native.Mathlib.Decide.{decLe}
 use Rattle.exact.specs.Bounds.{Within}
 use Rattle.exact.proofs.Bounds.{within-pos}
-use Rattle.exact.proofs.Held.{got}
+use Rattle.exact.proofs.Held.{got, told}
 use Rattle.model.specs.Traffic.{setSum}
 use Rattle.lanes.specs.declared.entries.Chosen.{Chosen}
 use Rattle.lanes.specs.Sets.{valueOf}
@@ -74,7 +74,7 @@ loop-less c = omega (arith, small c)
 loop-again : tie.Need-loop-again Inv-loop μ-loop
 loop-again c =
     let v = got w64 (c .set-sum .ok) (c .set-sum .ensures) in
-    (omega (arith, small c), filled-more (toZ w64 (ofZ w64 (c .set-sum .result))) (small c .1) (c .before .before .loop .inv .1) (v .is, subst (Within 1290000000000000) (sym (v .is)) (v .near)))
+    (omega (arith, small c), filled-more (toZ w64 (ofZ w64 (c .set-sum .result))) (small c .1) (c .before .before .loop .inv .1) (told v))
 
 returns : tie.Need-returns Inv-loop μ-loop
 returns c =

@@ -4,8 +4,8 @@ use lib.Dec.{lit<}
 use lib.IntN.{_*ℤ_}
 use mir.Syntax.{w64}
 use Rattle.exact.specs.Parts.{up}
-use Rattle.exact.proofs.Held.{Kept, arg, known, plus, plus!, times, times! }
-use Rattle.line.proofs.Told.{told, within-up}
+use Rattle.exact.proofs.Bounds.{within-up}
+use Rattle.exact.proofs.Held.{told, Kept, arg, known, plus, plus!, times, times! }
 use Rattle.line.proofs.effect.effect.Statement.{statement}
 use Rattle.line.proofs.effect.effect.Tie as tie
 

@@ -3,12 +3,11 @@ use Prim.Native.Nat.{ℕ, _+_, _-_, _*_}
 use native.Mathlib.Omega.{arith}
 use mir.Syntax.{w64}
 use Rattle.exact.proofs.Bounds.{within-pos}
-use Rattle.exact.proofs.Held.{back, ret}
+use Rattle.exact.proofs.Held.{back, ret, told}
 use Rattle.model.specs.Job.{InfluenceLine}
 use Rattle.model.specs.Line.{ordinate}
 use Rattle.model.specs.Decode.{influenceLine}
 use Rattle.model.proofs.Signs.{off-left}
-use Rattle.line.proofs.Told.{told}
 use Rattle.line.proofs.Axles.{left-on}
 use borrow.Author.Needs.{needs}
 use Rattle.line.proofs.pair.left_of.Statement.{statement}

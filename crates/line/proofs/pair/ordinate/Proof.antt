@@ -1,12 +1,11 @@
-use mathlib.Core.Path.{sym, _∙_, ap}
+use mathlib.Core.Path.{refl, sym, _∙_, ap}
 use Prim.Native.Nat.{ℕ}
 use lib.IntN.{ℤ, pos}
 use mir.Syntax.{w64}
-use Rattle.exact.proofs.Held.{back}
+use Rattle.exact.proofs.Held.{back, ret, told}
 use Rattle.model.specs.Decode.{influenceLine}
 use Rattle.model.specs.Line.{ordinate}
 use Rattle.model.specs.declared.Side.{Side}
-use Rattle.line.proofs.Told.{near-back}
 use borrow.Author.Needs.{needs}
 use Rattle.line.proofs.pair.ordinate.Statement.{statement}
 use Rattle.line.proofs.pair.ordinate.Tie as tie
@@ -30,13 +29,13 @@ returns : tie.Need-returns
 returns c =
     let a = c .left-of in
     let e = sym (c .before .enum-told .given .1) in
-    (λ h. back w64 (a .ok) (a .ensures .0 h ∙ ap (axle (c .before .before .before .before) h) e), near-back w64 (a .ok) (a .ensures .1))
+    (λ h. back w64 (a .ok) (a .ensures .0 h ∙ ap (axle (c .before .before .before .before) h) e), told (ret w64 (a .ok) refl (a .ensures .1)) .1)
 
 returns-2 : tie.Need-returns-2
 returns-2 c =
     let a = c .right-of in
     let e = sym (c .before .enum-told2 .given .1) in
-    (λ h. back w64 (a .ok) (a .ensures .0 h ∙ ap (axle (c .before .before .before .before) h) e), near-back w64 (a .ok) (a .ensures .1))
+    (λ h. back w64 (a .ok) (a .ensures .0 h ∙ ap (axle (c .before .before .before .before) h) e), told (ret w64 (a .ok) refl (a .ensures .1)) .1)
 
 pub ordinate-spec : {M : Type 1} → statement M
 ordinate-spec =

@@ -4,11 +4,10 @@ use native.Mathlib.Omega.{arith}
 use lib.Dec.{lit<, lit≤}
 use lib.IntN.{ℤ, pos, _+ℤ_}
 use mir.Syntax.{w64}
-use Rattle.exact.proofs.Held.{Kept, got, retold, loosen, plus, plus! }
+use Rattle.exact.proofs.Held.{told, Kept, got, retold, loosen, plus, plus! }
 use Rattle.model.specs.Job.{InfluenceLine}
 use Rattle.model.specs.Decode.{influenceLine}
 use Rattle.model.specs.Line.{ordinate}
-use Rattle.line.proofs.Told.{told}
 use Rattle.line.proofs.Axles.{pair-both, pair-ahead}
 use borrow.Author.Needs.{needs}
 use Rattle.line.proofs.pair.ordinates.Statement.{statement}

@@ -3,11 +3,10 @@ use Prim.Native.Nat.{ℕ, _*_}
 use native.Mathlib.Omega.{arith}
 use mir.Syntax.{w64}
 use Rattle.exact.proofs.Bounds.{within-pos}
-use Rattle.exact.proofs.Held.{back, ret}
+use Rattle.exact.proofs.Held.{back, ret, told}
 use Rattle.model.specs.Job.{InfluenceLine}
 use Rattle.model.specs.Decode.{influenceLine}
 use Rattle.model.proofs.Signs.{off-right}
-use Rattle.line.proofs.Told.{told}
 use Rattle.line.proofs.Axles.{right-on}
 use borrow.Author.Needs.{needs}
 use Rattle.line.proofs.pair.right_of.Statement.{statement}

@@ -3,8 +3,7 @@ use Prim.Native.Nat.{_+_, _*_}
 use lib.Dec.{lit<}
 use mir.Syntax.{w64}
 use Rattle.model.specs.Words.{wordAt}
-use Rattle.exact.proofs.Held.{Kept, ret, plus, plus! }
-use Rattle.line.proofs.Told.{told}
+use Rattle.exact.proofs.Held.{told, Kept, ret, plus, plus! }
 use Rattle.line.proofs.pieces.end_sum.Statement.{statement}
 use Rattle.line.proofs.pieces.end_sum.Tie as tie
 

@@ -3,8 +3,7 @@ use native.Mathlib.Omega.{arith}
 use borrow.Author.Tests.{eq-eqb, ne-eqb}
 use mir.Syntax.{w64}
 use Rattle.exact.proofs.Bounds.{within-pos}
-use Rattle.exact.proofs.Held.{got}
-use Rattle.line.proofs.Told.{told}
+use Rattle.exact.proofs.Held.{got, told}
 use borrow.Author.Needs.{needs}
 use Rattle.line.proofs.pieces.loaded_sum.Statement.{statement}
 use Rattle.line.proofs.pieces.loaded_sum.Tie as tie

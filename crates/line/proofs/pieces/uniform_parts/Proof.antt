@@ -8,12 +8,11 @@ use lib.IntN.{ℤ, pos, _*ℤ_}
 use mir.Syntax.{w64}
 use Rattle.exact.specs.Ranges.{sumTo}
 use Rattle.exact.proofs.Ranges.{sum-step}
-use Rattle.exact.proofs.Held.{Held, Kept, lit, nat, got, loosen, plus, plus!, times, times! }
+use Rattle.exact.proofs.Held.{told, Held, Kept, lit, nat, got, loosen, plus, plus!, times, times! }
 use Rattle.model.specs.declared.Sense.{Sense}
 use Rattle.model.specs.declared.Sense.the-variants.{Raising, Lowering}
 use Rattle.model.specs.Decode.{pieceAt}
 use Rattle.model.specs.Line.{loadedSum, uniformPart}
-use Rattle.line.proofs.Told.{told}
 use Rattle.line.proofs.Fitting.{fits-piece, uniform-room}
 use Rattle.line.proofs.pieces.uniform_parts.Statement.{statement}
 use Rattle.line.proofs.pieces.uniform_parts.Tie as tie

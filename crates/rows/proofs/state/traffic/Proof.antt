@@ -1,9 +1,9 @@
-use mathlib.Core.Path.{refl, sym}
+use mathlib.Core.Path.{sym}
 use native.Mathlib.Omega.{arith}
 use lib.Dec.{lit<}
 use mir.Syntax.{w64}
 use Rattle.exact.proofs.Bounds.{within-pos}
-use Rattle.exact.proofs.Held.{known}
+use Rattle.exact.proofs.Held.{known, retold, told}
 use Rattle.rows.proofs.Loaded.{kind-normal, kind-overload, kind-none}
 use Rattle.rows.proofs.state.traffic.Statement.{statement}
 use Rattle.rows.proofs.state.traffic.Tie as tie
@@ -11,14 +11,12 @@ use Rattle.rows.proofs.state.traffic.Tie as tie
 returns : tie.Need-returns
 returns c =
     let s = c .before .before in
-    let v = known w64 (s .pre .1 .0) (lit< tt) in
-    rw (kind-normal (s .args .live) (s .args .kind) (c .before .if1 .taken), v .is) (refl, v .near)
+    told (retold (known w64 (s .pre .1 .0) (lit< tt)) (sym (kind-normal (s .args .live) (s .args .kind) (c .before .if1 .taken))))
 
 returns-2 : tie.Need-returns-2
 returns-2 c =
     let s = c .before .before .before in
-    let v = known w64 (s .pre .1 .1) (lit< tt) in
-    rw (kind-overload (s .args .live) (s .args .kind) (c .before .if2 .taken), v .is) (refl, v .near)
+    told (retold (known w64 (s .pre .1 .1) (lit< tt)) (sym (kind-overload (s .args .live) (s .args .kind) (c .before .if2 .taken))))
 
 returns-3 : tie.Need-returns-3
 returns-3 c =
