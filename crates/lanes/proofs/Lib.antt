@@ -6,7 +6,6 @@ pub mod Powers
 pub mod Search
 pub mod Reduced
 pub mod Overloads
-pub mod Rounded
 pub mod SetNumbers
 pub mod Elements
 pub mod Placements

@@ -7,6 +7,7 @@ use lib.IntN.{ℤ, pos, _+ℤ_, _*ℤ_}
 use Rattle.exact.specs.Questions.{beats}
 use Rattle.exact.specs.declared.Question.{Question}
 use Rattle.exact.specs.declared.Question.the-variants.{Greatest, Least}
+use Rattle.exact.proofs.Extremes.{better-first, better-second}
 use Rattle.exact.proofs.Ring.{_⊕_, _⊗_, lit, _≐_, solve}
 use Rattle.model.specs.Decode.{liveOf}
 use Rattle.model.specs.Job.{Effect, Live, Row}
@@ -16,7 +17,7 @@ use Rattle.rows.specs.declared.chain.Chained.{Chained}
 use Rattle.rows.specs.Chained.{flagged, ChainRight}
 use Rattle.rows.specs.declared.state.Live.{Live as Values}
 use Rattle.rows.specs.Governed.{trafficOf, RowRight}
-use Rattle.rows.proofs.Omissions.{better-first, better-second, chain-cong}
+use Rattle.rows.proofs.Omissions.{chain-cong}
 
 -- the value that each number of a live kind takes
 pub kind-normal : (v : Values) (k : ℕ) → k ≡ 1 → trafficOf v (liveOf k) ≡ v .normal

@@ -14,25 +14,14 @@ use Rattle.exact.specs.Bounds.{Within}
 use Rattle.exact.specs.Choice.{if_then_else_}
 use Rattle.exact.specs.Questions.{better, beats}
 use Rattle.exact.specs.declared.Question.{Question}
-use Rattle.exact.specs.declared.Question.the-variants.{Greatest, Least}
 use Rattle.exact.proofs.Bounds.{within-add, within-le, within-pos}
 use Rattle.exact.proofs.Bridge.{by-test}
-use Rattle.exact.proofs.Order.{lt→le, max-is-left, max-is-right, min-is-left, min-is-right}
+use Rattle.exact.proofs.Extremes.{better-first, better-second}
 use Rattle.exact.proofs.Ring.{_⊕_, lit, _≐_, solve}
-use Rattle.exact.proofs.Tests.{ltZ-true, ltZ-false}
 use Rattle.model.specs.Job.{Effect, Term}
 use Rattle.model.specs.Rows.{share, chainValue, names, bestChain}
 use Rattle.rows.specs.declared.chain.Chained.{Chained}
 use Rattle.rows.specs.Chained.{flagged, ChainRight}
-
--- ---- the better of two, by the test that the code makes
-pub better-first : (q : Question) (x y : ℤ) → beats q x y ≡ true → better q x y ≡ x
-better-first Greatest x y e = max-is-left (lt→le (ltZ-true y x e))
-better-first Least x y e = min-is-left (lt→le (ltZ-true x y e))
-
-pub better-second : (q : Question) (x y : ℤ) → beats q x y ≡ false → better q x y ≡ y
-better-second Greatest x y e = max-is-right (ltZ-false y x e)
-better-second Least x y e = min-is-right (ltZ-false x y e)
 
 -- ---- the first term names its effect, and a later one what it names
 names-first : (t : Term) (l : List Term) → names (t ∷ l) (t .effect) ≡ true

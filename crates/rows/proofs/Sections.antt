@@ -5,7 +5,7 @@ use mathlib.Core.List.{List}
 use Prim.Native.Nat.{ℕ, _+_, _-_, _*_, _≤_}
 use native.Mathlib.Omega.{arith}
 use lib.ListN.{length}
-use Rattle.model.specs.Sections.{sectionOf, effectCount, rowCount, recordCount, wordsDue, effectWords, rowWords, recordWords, effectsStart, rowsStart, recordsStart, effectSection, rowSection, recordSection}
+use Rattle.model.specs.Sections.{effectCount, rowCount, recordCount, wordsDue, effectWords, rowWords, recordWords, effectsStart, rowsStart, recordsStart, effectSection, rowSection, recordSection}
 use Rattle.model.specs.Decode.{firstRecord}
 use Rattle.model.specs.Refusals.{verdict, chainReturns, chainNamesTwice}
 use Rattle.model.proofs.Accepted.{Clear, clear, section-length, size-fits, header-fits, effect-fits, row-fits, record-fits, chain-clear}

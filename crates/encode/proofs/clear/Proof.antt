@@ -5,7 +5,6 @@ use native.Mathlib.Omega.{arith}
 use native.Mathlib.Numerals.{add-one}
 use lib.ListN.{length, take, set, replicate, length-set, replicate-append-replicate}
 use lib.Seq.{take-suc-set, take-all}
-use borrow.Author.Needs.{needs}
 use Rattle.encode.proofs.clear.Statement.{statement}
 use Rattle.encode.proofs.clear.Tie as tie
 use Rattle.encode.proofs.clear.Reads as reads

@@ -1,5 +1,4 @@
-use Prim.Native.Nat.{_+_, _*_, _-_, _≤_}
-use lib.ListN.{length}
+use Prim.Native.Nat.{_*_, _-_, _≤_}
 use native.Mathlib.Omega.{arith}
 use Rattle.replay.proofs.weighted_sum.Statement.{statement}
 use Rattle.replay.proofs.weighted_sum.Tie as tie

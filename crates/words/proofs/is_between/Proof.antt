@@ -1,6 +1,5 @@
-use mathlib.Core.Path.{_≡_, refl}
+use mathlib.Core.Path.{refl}
 use mir.Facts.{toZ-ofZ}
-use mir.Syntax.{w64}
 use Rattle.exact.proofs.Held.{any, le-yes, le-no}
 use Rattle.words.proofs.is_between.Statement.{statement}
 use Rattle.words.proofs.is_between.Tie as tie

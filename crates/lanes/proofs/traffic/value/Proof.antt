@@ -8,8 +8,8 @@ use borrow.Author.Needs.{needs}
 use Rattle.exact.specs.Questions.{rounded}
 use Rattle.exact.proofs.Bounds.{within-le}
 use Rattle.exact.proofs.Held.{Kept, arg, nat, lit, back, times, times! }
+use Rattle.exact.proofs.Rounding.{quotient-near}
 use Rattle.model.specs.Traffic.{effectOf}
-use Rattle.lanes.proofs.Rounded.{quotient-near}
 use Rattle.lanes.proofs.traffic.value.Statement.{statement}
 use Rattle.lanes.proofs.traffic.value.Tie as tie
 use Rattle.lanes.proofs.traffic.value.Reads as reads
