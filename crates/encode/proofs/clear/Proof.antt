@@ -7,8 +7,6 @@ use lib.ListN.{length, take, set, replicate, length-set, replicate-append-replic
 use lib.Seq.{take-suc-set, take-all}
 use Rattle.encode.proofs.clear.Statement.{statement}
 use Rattle.encode.proofs.clear.Tie as tie
-use Rattle.encode.proofs.clear.Reads as reads
-use Rattle.encode.proofs.clear.Lts as lts
 
 abbrev Inv-loop : tie.InvT-loop
 Inv-loop out₀ i₀ i-end out i = (i ≤ i-end) × (length out ≡ length out₀) × (take i out ≡ replicate i 0)

@@ -9,8 +9,6 @@ use Rattle.encode.specs.Encoding.{bytesOf}
 use borrow.Author.Needs.{needs}
 use Rattle.encode.proofs.put.Statement.{statement}
 use Rattle.encode.proofs.put.Tie as tie
-use Rattle.encode.proofs.put.Reads as reads
-use Rattle.encode.proofs.put.Lts as lts
 
 -- eight stores one after the other
 eight : (s : List ℕ) (at a b c d e f g h : ℕ) →

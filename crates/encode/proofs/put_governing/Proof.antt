@@ -5,11 +5,6 @@ use Rattle.encode.proofs.Stores.{and-then, signed, natural}
 use borrow.Author.Needs.{needs}
 use Rattle.encode.proofs.put_governing.Statement.{statement}
 use Rattle.encode.proofs.put_governing.Tie as tie
-use Rattle.encode.proofs.put_governing.Reads as reads
-use Rattle.encode.proofs.put_governing.Lts as lts
-use Rattle.encode.proofs.flag_number.Reads as flag-number-reads
-use Rattle.encode.proofs.put.Reads as put-reads
-use Rattle.encode.proofs.put_signed.Reads as put-signed-reads
 
 put-signed-requires : tie.Need-put-signed-requires
 put-signed-requires c κs = search needs

@@ -3,10 +3,6 @@ use Rattle.encode.proofs.Stores.{and-then, natural}
 use borrow.Author.Needs.{needs}
 use Rattle.encode.proofs.put_lane.Statement.{statement}
 use Rattle.encode.proofs.put_lane.Tie as tie
-use Rattle.encode.proofs.put_lane.Reads as reads
-use Rattle.encode.proofs.put_lane.Lts as lts
-use Rattle.encode.proofs.entry_number.Reads as entry-number-reads
-use Rattle.encode.proofs.put.Reads as put-reads
 
 entry-number-requires : tie.Need-entry-number-requires
 entry-number-requires c κs = search needs

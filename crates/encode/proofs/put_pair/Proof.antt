@@ -3,10 +3,6 @@ use Rattle.encode.proofs.Stores.{and-then}
 use borrow.Author.Needs.{needs}
 use Rattle.encode.proofs.put_pair.Statement.{statement}
 use Rattle.encode.proofs.put_pair.Tie as tie
-use Rattle.encode.proofs.put_pair.Reads as reads
-use Rattle.encode.proofs.put_pair.Lts as lts
-use Rattle.encode.proofs.put.Reads as put-reads
-use Rattle.encode.proofs.put_governing.Reads as put-governing-reads
 
 put-requires : tie.Need-put-requires
 put-requires c κs = search needs

@@ -10,10 +10,6 @@ use Rattle.encode.specs.Encoding.{laneNumbers, lanesNumbers, Stored}
 use Rattle.encode.proofs.Stores.{nothing, and-then, kept, retold}
 use Rattle.encode.proofs.put_placement.Statement.{statement}
 use Rattle.encode.proofs.put_placement.Tie as tie
-use Rattle.encode.proofs.put_placement.Reads as reads
-use Rattle.encode.proofs.put_placement.Lts as lts
-use Rattle.encode.proofs.put.Reads as put-reads
-use Rattle.encode.proofs.put_lane.Reads as put-lane-reads
 
 abbrev Inv-loop : tie.InvT-loop
 Inv-loop out₀ at p i₀ out i = (i ≤ 5) × Stored out₀ (at + 8) (lanesNumbers p i) out

@@ -3,9 +3,6 @@ use borrow.Author.Needs.{needs}
 use Rattle.encode.proofs.Stores.{and-then}
 use Rattle.encode.proofs.put_placements.Statement.{statement}
 use Rattle.encode.proofs.put_placements.Tie as tie
-use Rattle.encode.proofs.put_placements.Reads as reads
-use Rattle.encode.proofs.put_placements.Lts as lts
-use Rattle.encode.proofs.put_placement.Reads as put-placement-reads
 
 put-placement-requires : tie.Need-put-placement-requires
 put-placement-requires c κs = search needs

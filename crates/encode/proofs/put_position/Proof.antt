@@ -5,11 +5,6 @@ use Rattle.encode.proofs.Stores.{and-then, signed, natural}
 use borrow.Author.Needs.{needs}
 use Rattle.encode.proofs.put_position.Statement.{statement}
 use Rattle.encode.proofs.put_position.Tie as tie
-use Rattle.encode.proofs.put_position.Reads as reads
-use Rattle.encode.proofs.put_position.Lts as lts
-use Rattle.encode.proofs.put.Reads as put-reads
-use Rattle.encode.proofs.put_signed.Reads as put-signed-reads
-use Rattle.encode.proofs.side_number.Reads as side-number-reads
 
 put-signed-requires : tie.Need-put-signed-requires
 put-signed-requires c κs = search needs

@@ -7,10 +7,6 @@ use Rattle.encode.proofs.Stores.{natural}
 use borrow.Author.Needs.{needs}
 use Rattle.encode.proofs.put_signed.Statement.{statement}
 use Rattle.encode.proofs.put_signed.Tie as tie
-use Rattle.encode.proofs.put_signed.Reads as reads
-use Rattle.encode.proofs.put_signed.Lts as lts
-use Rattle.encode.proofs.bits_of.Reads as bits-of-reads
-use Rattle.encode.proofs.put.Reads as put-reads
 
 bits-of-requires : tie.Need-bits-of-requires
 bits-of-requires c κs = search needs

@@ -4,9 +4,6 @@ use Rattle.encode.proofs.Stores.{retold}
 use borrow.Author.Needs.{needs}
 use Rattle.encode.proofs.put_state.Statement.{statement}
 use Rattle.encode.proofs.put_state.Tie as tie
-use Rattle.encode.proofs.put_state.Reads as reads
-use Rattle.encode.proofs.put_state.Lts as lts
-use Rattle.encode.proofs.put_pair.Reads as put-pair-reads
 
 enum-told : tie.Need-enum-told
 enum-told c = search needs

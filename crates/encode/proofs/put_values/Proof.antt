@@ -5,9 +5,6 @@ use Rattle.encode.proofs.Stores.{and-then, signed}
 use borrow.Author.Needs.{needs}
 use Rattle.encode.proofs.put_values.Statement.{statement}
 use Rattle.encode.proofs.put_values.Tie as tie
-use Rattle.encode.proofs.put_values.Reads as reads
-use Rattle.encode.proofs.put_values.Lts as lts
-use Rattle.encode.proofs.put_signed.Reads as put-signed-reads
 
 put-signed-requires : tie.Need-put-signed-requires
 put-signed-requires c κs = search needs

@@ -6,12 +6,6 @@ use Rattle.encode.proofs.Stores.{and-then, from-start}
 use Rattle.encode.proofs.Reading.{nine, seventy}
 use Rattle.encode.proofs.write.Statement.{statement}
 use Rattle.encode.proofs.write.Tie as tie
-use Rattle.encode.proofs.write.Reads as reads
-use Rattle.encode.proofs.write.Lts as lts
-use Rattle.encode.proofs.put_placements.Reads as put-placements-reads
-use Rattle.encode.proofs.put_position.Reads as put-position-reads
-use Rattle.encode.proofs.put_state.Reads as put-state-reads
-use Rattle.encode.proofs.put_values.Reads as put-values-reads
 
 put-values-requires : tie.Need-put-values-requires
 put-values-requires c κs = search needs

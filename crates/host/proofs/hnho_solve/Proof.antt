@@ -5,11 +5,6 @@ use Rattle.host.specs.Hosted.{short, answered}
 use Rattle.host.proofs.Places.{answer-small}
 use Rattle.host.proofs.hnho_solve.Statement.{statement}
 use Rattle.host.proofs.hnho_solve.Tie as tie
-use Rattle.host.proofs.hnho_solve.Reads as reads
-use Rattle.host.proofs.hnho_solve.Lts as lts
-use Rattle.encode.proofs.clear.Reads as clear-reads
-use Rattle.encode.proofs.write.Reads as write-reads
-use Rattle.kernel.proofs.solve.Reads as solve-reads
 
 clear-requires : tie.Need-clear-requires
 clear-requires c κs = search needs

@@ -16,11 +16,6 @@ use Rattle.kernel.proofs.Pairs.{near-back, pairOf, pair-back}
 use borrow.Author.Needs.{needs}
 use Rattle.kernel.proofs.account.Statement.{statement}
 use Rattle.kernel.proofs.account.Tie as tie
-use Rattle.kernel.proofs.account.Reads as reads
-use Rattle.kernel.proofs.account.Lts as lts
-use Rattle.kernel.proofs.limit_state.Reads as limit-state-reads
-use Rattle.kernel.proofs.sought.Reads as sought-reads
-use Rattle.kernel.proofs.values.Reads as values-reads
 
 sought-requires : tie.Need-sought-requires
 sought-requires c κs = search needs

@@ -3,12 +3,6 @@ use Rattle.model.specs.Decode.{limitOf}
 use Rattle.kernel.proofs.Fits.{sized, tables-found, state-found}
 use Rattle.kernel.proofs.limit_state.Statement.{statement}
 use Rattle.kernel.proofs.limit_state.Tie as tie
-use Rattle.kernel.proofs.limit_state.Reads as reads
-use Rattle.kernel.proofs.limit_state.Lts as lts
-use Rattle.job.proofs.sections.effects.Reads as effects-reads
-use Rattle.job.proofs.sections.records.Reads as records-reads
-use Rattle.job.proofs.sections.rows.Reads as rows-reads
-use Rattle.rows.proofs.state.state.Reads as state-reads
 
 effects-requires : tie.Need-effects-requires
 effects-requires c κs = sized (c .before .pre .0)

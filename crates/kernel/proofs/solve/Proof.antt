@@ -24,14 +24,6 @@ use Rattle.kernel.proofs.Right.{account-right}
 use borrow.Author.Needs.{needs}
 use Rattle.kernel.proofs.solve.Statement.{statement}
 use Rattle.kernel.proofs.solve.Tie as tie
-use Rattle.kernel.proofs.solve.Reads as reads
-use Rattle.kernel.proofs.solve.Lts as lts
-use Rattle.job.proofs.header.read.Reads as read-reads
-use Rattle.job.proofs.refusals.verdict.Reads as verdict-reads
-use Rattle.job.proofs.sections.line.Reads as line-reads
-use Rattle.kernel.proofs.account.Reads as account-reads
-use Rattle.kernel.proofs.refused.Reads as refused-reads
-use Rattle.line.proofs.pieces.mark.Reads as mark-reads
 
 -- a ruling with a number is that refusal
 is-refused : (r : Ruling) {v : Option Refusal} → (r .number ≡ 0 → ⊥) → (if eqb (r .number) 0 then none else some (record { number = r .number; place = r .place })) ≡ v → v ≡ some (record { number = r .number; place = r .place })

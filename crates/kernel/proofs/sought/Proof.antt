@@ -9,10 +9,6 @@ use Rattle.job.specs.declared.header.Header.{Header}
 use Rattle.kernel.proofs.Fits.{sized, line-fits, line-limits}
 use Rattle.kernel.proofs.sought.Statement.{statement}
 use Rattle.kernel.proofs.sought.Tie as tie
-use Rattle.kernel.proofs.sought.Reads as reads
-use Rattle.kernel.proofs.sought.Lts as lts
-use Rattle.job.proofs.sections.line.Reads as line-reads
-use Rattle.line.proofs.effect.seek.Reads as seek-reads
 
 line-requires : tie.Need-line-requires
 line-requires c κs = sized (c .before .pre)

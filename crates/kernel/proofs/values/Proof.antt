@@ -13,16 +13,6 @@ use Rattle.kernel.proofs.Loads.{effects-are, effects-fit, traffic-fits,
 use borrow.Author.Needs.{needs}
 use Rattle.kernel.proofs.values.Statement.{statement}
 use Rattle.kernel.proofs.values.Tie as tie
-use Rattle.kernel.proofs.values.Reads as reads
-use Rattle.kernel.proofs.values.Lts as lts
-use Rattle.job.proofs.sections.transverse.Reads as transverse-reads
-use Rattle.kernel.proofs.hn_effects.Reads as hn-effects-reads
-use Rattle.kernel.proofs.ho_effects.Reads as ho-effects-reads
-use Rattle.lanes.proofs.centres.spans.Reads as spans-reads
-use Rattle.lanes.proofs.count.lane_count.Reads as lane-count-reads
-use Rattle.lanes.proofs.dynamic.factor.Reads as factor-reads
-use Rattle.lanes.proofs.traffic.normal.Reads as normal-reads
-use Rattle.lanes.proofs.traffic.overload.Reads as overload-reads
 
 hn-effects-requires : tie.Need-hn-effects-requires
 hn-effects-requires c κs = search needs

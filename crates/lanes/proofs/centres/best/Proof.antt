@@ -10,10 +10,6 @@ use Rattle.lanes.proofs.Ordinates.{ordinate-near, ordinates-left, ordin
 use Rattle.lanes.proofs.Candidates.{limits-tried, next-tried}
 use Rattle.lanes.proofs.centres.best.Statement.{statement}
 use Rattle.lanes.proofs.centres.best.Tie as tie
-use Rattle.lanes.proofs.centres.best.Reads as reads
-use Rattle.lanes.proofs.centres.best.Lts as lts
-use Rattle.lanes.proofs.centres.consider.Reads as consider-reads
-use Rattle.lanes.proofs.centres.ordinate.Reads as ordinate-reads
 
 abbrev Inv-loop : tie.InvT-loop
 Inv-loop q across d lo hi best₀ m₀ m-end best m = (lo / d < m) × (m ≤ hi / d + 1) × BestBefore q across d lo hi m best

@@ -6,10 +6,6 @@ use Rattle.exact.proofs.Held.{back}
 use Rattle.lanes.specs.Candidates.{ordinateAt}
 use Rattle.lanes.proofs.centres.consider.Statement.{statement}
 use Rattle.lanes.proofs.centres.consider.Tie as tie
-use Rattle.lanes.proofs.centres.consider.Reads as reads
-use Rattle.lanes.proofs.centres.consider.Lts as lts
-use Rattle.exact.proofs.beats.Reads as beats-reads
-use Rattle.lanes.proofs.centres.ordinate.Reads as ordinate-reads
 
 ordinate-requires : tie.Need-ordinate-requires
 ordinate-requires c κs = search needs

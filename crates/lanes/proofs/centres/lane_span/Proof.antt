@@ -5,9 +5,6 @@ use Rattle.lanes.proofs.Limits.{Limits, limits, centre-right}
 use borrow.Author.Needs.{needs}
 use Rattle.lanes.proofs.centres.lane_span.Statement.{statement}
 use Rattle.lanes.proofs.centres.lane_span.Tie as tie
-use Rattle.lanes.proofs.centres.lane_span.Reads as reads
-use Rattle.lanes.proofs.centres.lane_span.Lts as lts
-use Rattle.lanes.proofs.centres.best.Reads as best-reads
 
 -- lane i's limits
 bounds : (s : tie.Start) → let a = s .args in Limits (a .across .now) (a .width) (a .n) (a .g) (a .i)

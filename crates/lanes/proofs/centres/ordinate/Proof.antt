@@ -11,9 +11,6 @@ use Rattle.model.specs.Words.{wordAt}
 use Rattle.lanes.proofs.Ordinates.{ordinate-weights, ordinate-near}
 use Rattle.lanes.proofs.centres.ordinate.Statement.{statement}
 use Rattle.lanes.proofs.centres.ordinate.Tie as tie
-use Rattle.lanes.proofs.centres.ordinate.Reads as reads
-use Rattle.lanes.proofs.centres.ordinate.Lts as lts
-use Rattle.words.proofs.word.Reads as word-reads
 
 -- the remainder is below d
 small : (s : tie.Start) → s .args .centre % s .args .d < s .args .d

@@ -10,9 +10,6 @@ use Rattle.lanes.specs.Spans.{SpanRight, noSpan}
 use Rattle.model.proofs.Lanes.{lane-count}
 use Rattle.lanes.proofs.centres.spans.Statement.{statement}
 use Rattle.lanes.proofs.centres.spans.Tie as tie
-use Rattle.lanes.proofs.centres.spans.Reads as reads
-use Rattle.lanes.proofs.centres.spans.Lts as lts
-use Rattle.lanes.proofs.centres.lane_span.Reads as lane-span-reads
 
 abbrev Inv-loop : tie.InvT-loop
 Inv-loop across width n g all₀ i₀ all i =

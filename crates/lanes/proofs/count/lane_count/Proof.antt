@@ -4,8 +4,6 @@ use borrow.Author.Tests.{lt-ltb, le-ltb}
 use Rattle.model.specs.Lanes.{laneCount}
 use Rattle.lanes.proofs.count.lane_count.Statement.{statement}
 use Rattle.lanes.proofs.count.lane_count.Tie as tie
-use Rattle.lanes.proofs.count.lane_count.Reads as reads
-use Rattle.lanes.proofs.count.lane_count.Lts as lts
 
 returns : tie.Need-returns
 unfolding laneCount

@@ -5,8 +5,6 @@ use borrow.Author.Needs.{needs}
 use Rattle.model.specs.Dynamic.{dynamicFactor}
 use Rattle.lanes.proofs.dynamic.factor.Statement.{statement}
 use Rattle.lanes.proofs.dynamic.factor.Tie as tie
-use Rattle.lanes.proofs.dynamic.factor.Reads as reads
-use Rattle.lanes.proofs.dynamic.factor.Lts as lts
 
 returns : tie.Need-returns
 unfolding dynamicFactor

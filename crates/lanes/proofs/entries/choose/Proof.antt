@@ -15,11 +15,6 @@ use Rattle.lanes.specs.Entries.{bestOf, SpanNear}
 use Rattle.lanes.proofs.Elements.{near-of}
 use Rattle.lanes.proofs.entries.choose.Statement.{statement}
 use Rattle.lanes.proofs.entries.choose.Tie as tie
-use Rattle.lanes.proofs.entries.choose.Reads as reads
-use Rattle.lanes.proofs.entries.choose.Lts as lts
-use Rattle.exact.proofs.beats.Reads as beats-reads
-use Rattle.lanes.proofs.entries.best_of.Reads as best-of-reads
-use Rattle.lanes.proofs.entries.worst_of.Reads as worst-of-reads
 
 -- an ordinate as a call returned it
 abbrev ordinate : (x : Centre) (q : Question) (span : Span) → x ≡ bestOf q span → SpanNear span → Kept w64 250000 (bestOf q span .ordinate)

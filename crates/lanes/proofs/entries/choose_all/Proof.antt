@@ -9,9 +9,6 @@ use Rattle.lanes.specs.Entries.{noElement, ChosenRight}
 use Rattle.lanes.proofs.Filled.{FilledTo, filled-none, filled-more}
 use Rattle.lanes.proofs.entries.choose_all.Statement.{statement}
 use Rattle.lanes.proofs.entries.choose_all.Tie as tie
-use Rattle.lanes.proofs.entries.choose_all.Reads as reads
-use Rattle.lanes.proofs.entries.choose_all.Lts as lts
-use Rattle.lanes.proofs.entries.choose.Reads as choose-reads
 
 abbrev Inv-loop : tie.InvT-loop
 Inv-loop q n raising lowering spans all₀ i₀ all i = (i ≤ n) × FilledTo (λ k. ChosenRight q (getD spans k noSpan) (toZ w64 raising) (toZ w64 lowering)) 5 noElement i all

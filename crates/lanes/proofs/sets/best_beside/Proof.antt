@@ -15,10 +15,6 @@ use Rattle.lanes.proofs.Search.{Best, best-more}
 use Rattle.lanes.proofs.Overloads.{beside-of}
 use Rattle.lanes.proofs.sets.best_beside.Statement.{statement}
 use Rattle.lanes.proofs.sets.best_beside.Tie as tie
-use Rattle.lanes.proofs.sets.best_beside.Reads as reads
-use Rattle.lanes.proofs.sets.best_beside.Lts as lts
-use Rattle.lanes.proofs.sets.better.Reads as better-reads
-use Rattle.lanes.proofs.sets.overload_of.Reads as overload-of-reads
 
 abbrev Inv-loop : tie.InvT-loop
 Inv-loop q sums n ho lane best₀ set₀ set-end best set = (1 ≤ set) × ((set ≤ 2 ^ n) × Best q (λ (r : Overload). r .value) (BesideRight sums n (toZ w64 ho) lane) (overloadSum sums (toZ w64 ho) lane) (set - 1) best)

@@ -8,9 +8,6 @@ use Rattle.lanes.proofs.Powers.{power-is, power-small}
 use Rattle.lanes.proofs.Search.{Best, best-more}
 use Rattle.lanes.proofs.sets.best_normal.Statement.{statement}
 use Rattle.lanes.proofs.sets.best_normal.Tie as tie
-use Rattle.lanes.proofs.sets.best_normal.Reads as reads
-use Rattle.lanes.proofs.sets.best_normal.Lts as lts
-use Rattle.lanes.proofs.sets.better_set.Reads as better-set-reads
 
 abbrev Inv-loop : tie.InvT-loop
 Inv-loop q sums n best₀ set₀ set-end best set = (1 ≤ set) × ((set ≤ 2 ^ n) × Best q (sumAt sums) (λ s. s < 2 ^ n) (sumAt sums) (set - 1) best)

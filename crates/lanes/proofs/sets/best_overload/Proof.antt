@@ -14,10 +14,6 @@ use Rattle.lanes.proofs.Search.{Best, best-more}
 use Rattle.lanes.proofs.Overloads.{Fine, fine-of}
 use Rattle.lanes.proofs.sets.best_overload.Statement.{statement}
 use Rattle.lanes.proofs.sets.best_overload.Tie as tie
-use Rattle.lanes.proofs.sets.best_overload.Reads as reads
-use Rattle.lanes.proofs.sets.best_overload.Lts as lts
-use Rattle.lanes.proofs.sets.best_beside.Reads as best-beside-reads
-use Rattle.lanes.proofs.sets.better.Reads as better-reads
 
 abbrev Inv-loop : tie.InvT-loop
 Inv-loop q sums n ho best₀ lane₀ best lane = (1 ≤ lane) × ((lane ≤ n) × Best q (λ (r : Overload). r .value) (Fine sums n (valueOf ho)) (λ o. extreme q (2 ^ n - 1) (overloadSum sums (valueOf ho o) o)) (lane - 1) best)

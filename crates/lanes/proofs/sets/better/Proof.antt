@@ -10,9 +10,6 @@ use Rattle.exact.specs.Questions.{beats}
 use Rattle.exact.proofs.Held.{any, ok-fits, beats-held}
 use Rattle.lanes.proofs.sets.better.Statement.{statement}
 use Rattle.lanes.proofs.sets.better.Tie as tie
-use Rattle.lanes.proofs.sets.better.Reads as reads
-use Rattle.lanes.proofs.sets.better.Lts as lts
-use Rattle.exact.proofs.beats.Reads as beats-reads
 
 beats-requires : tie.Need-beats-requires
 beats-requires c κs = search needs

@@ -11,9 +11,6 @@ use Rattle.exact.proofs.Held.{any, ok-fits, beats-held}
 use Rattle.lanes.specs.Sets.{sumAt}
 use Rattle.lanes.proofs.sets.better_set.Statement.{statement}
 use Rattle.lanes.proofs.sets.better_set.Tie as tie
-use Rattle.lanes.proofs.sets.better_set.Reads as reads
-use Rattle.lanes.proofs.sets.better_set.Lts as lts
-use Rattle.exact.proofs.beats.Reads as beats-reads
 
 mul-beats : tie.Need-mul-beats
 mul-beats c = search needs

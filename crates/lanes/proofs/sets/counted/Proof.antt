@@ -10,9 +10,6 @@ use Rattle.exact.specs.Choice.{if_then_else_}
 use Rattle.exact.proofs.Held.{back}
 use Rattle.lanes.proofs.sets.counted.Statement.{statement}
 use Rattle.lanes.proofs.sets.counted.Tie as tie
-use Rattle.lanes.proofs.sets.counted.Reads as reads
-use Rattle.lanes.proofs.sets.counted.Lts as lts
-use Rattle.lanes.proofs.sets.has.Reads as has-reads
 
 has-requires : tie.Need-has-requires
 has-requires c κs = search needs

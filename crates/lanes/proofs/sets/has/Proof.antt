@@ -4,8 +4,6 @@ use borrow.Author.Needs.{needs}
 use Rattle.lanes.proofs.Powers.{power-is}
 use Rattle.lanes.proofs.sets.has.Statement.{statement}
 use Rattle.lanes.proofs.sets.has.Tie as tie
-use Rattle.lanes.proofs.sets.has.Reads as reads
-use Rattle.lanes.proofs.sets.has.Lts as lts
 
 mul-result : tie.Need-mul-result
 mul-result c = search needs

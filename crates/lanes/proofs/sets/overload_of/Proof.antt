@@ -10,9 +10,6 @@ use Rattle.model.specs.Lanes.{without}
 use Rattle.lanes.specs.Sets.{sumAt}
 use Rattle.lanes.proofs.sets.overload_of.Statement.{statement}
 use Rattle.lanes.proofs.sets.overload_of.Tie as tie
-use Rattle.lanes.proofs.sets.overload_of.Reads as reads
-use Rattle.lanes.proofs.sets.overload_of.Lts as lts
-use Rattle.lanes.proofs.sets.without.Reads as without-reads
 
 without-requires : tie.Need-without-requires
 without-requires c κs = search needs

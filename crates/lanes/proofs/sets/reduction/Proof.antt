@@ -7,8 +7,6 @@ use Rattle.exact.proofs.Bounds.{within-pos}
 use Rattle.model.specs.Lanes.{reduction}
 use Rattle.lanes.proofs.sets.reduction.Statement.{statement}
 use Rattle.lanes.proofs.sets.reduction.Tie as tie
-use Rattle.lanes.proofs.sets.reduction.Reads as reads
-use Rattle.lanes.proofs.sets.reduction.Lts as lts
 
 few : (m : ℕ) → m < 2 → pos 20 ≡ reduction m
 unfolding reduction

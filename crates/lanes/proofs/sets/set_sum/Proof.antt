@@ -21,10 +21,6 @@ use Rattle.lanes.specs.Sets.{valueOf}
 use Rattle.lanes.proofs.Reduced.{count-le, reduced-near}
 use Rattle.lanes.proofs.sets.set_sum.Statement.{statement}
 use Rattle.lanes.proofs.sets.set_sum.Tie as tie
-use Rattle.lanes.proofs.sets.set_sum.Reads as reads
-use Rattle.lanes.proofs.sets.set_sum.Lts as lts
-use Rattle.lanes.proofs.sets.counted.Reads as counted-reads
-use Rattle.lanes.proofs.sets.reduction.Reads as reduction-reads
 
 abbrev Inv-loop : tie.InvT-loop
 Inv-loop n set hn sum₀ i₀ sum i = (i ≤ n) × Held w64 sum (21500000000000 * countTo i (bit set)) (sumTo i (λ k. if bit set k then valueOf hn k else pos 0))

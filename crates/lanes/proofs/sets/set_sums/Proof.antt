@@ -16,9 +16,6 @@ use Rattle.lanes.proofs.Filled.{FilledTo, filled-none, filled-more}
 use Rattle.lanes.proofs.Powers.{power-is, power-small}
 use Rattle.lanes.proofs.sets.set_sums.Statement.{statement}
 use Rattle.lanes.proofs.sets.set_sums.Tie as tie
-use Rattle.lanes.proofs.sets.set_sums.Reads as reads
-use Rattle.lanes.proofs.sets.set_sums.Lts as lts
-use Rattle.lanes.proofs.sets.set_sum.Reads as set-sum-reads
 
 -- a set's sum, with its bound
 abbrev Summed : ℕ → List Chosen → ℕ → ℤ → Type 0

@@ -4,8 +4,6 @@ use borrow.Author.Needs.{needs}
 use Rattle.lanes.proofs.Powers.{power-is, power-small}
 use Rattle.lanes.proofs.sets.with.Statement.{statement}
 use Rattle.lanes.proofs.sets.with.Tie as tie
-use Rattle.lanes.proofs.sets.with.Reads as reads
-use Rattle.lanes.proofs.sets.with.Lts as lts
 
 mul-result : tie.Need-mul-result
 mul-result c = search needs

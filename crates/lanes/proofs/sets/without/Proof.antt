@@ -8,9 +8,6 @@ use Rattle.exact.specs.Choice.{if_then_else_}
 use Rattle.lanes.proofs.Powers.{power-is, bit-le}
 use Rattle.lanes.proofs.sets.without.Statement.{statement}
 use Rattle.lanes.proofs.sets.without.Tie as tie
-use Rattle.lanes.proofs.sets.without.Reads as reads
-use Rattle.lanes.proofs.sets.without.Lts as lts
-use Rattle.lanes.proofs.sets.has.Reads as has-reads
 
 has-requires : tie.Need-has-requires
 has-requires c κs = search needs

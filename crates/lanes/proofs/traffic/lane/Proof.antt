@@ -6,9 +6,6 @@ use Rattle.model.specs.Lanes.{bit}
 use Rattle.lanes.specs.Traffic.{laneBy}
 use Rattle.lanes.proofs.traffic.lane.Statement.{statement}
 use Rattle.lanes.proofs.traffic.lane.Tie as tie
-use Rattle.lanes.proofs.traffic.lane.Reads as reads
-use Rattle.lanes.proofs.traffic.lane.Lts as lts
-use Rattle.lanes.proofs.sets.has.Reads as has-reads
 
 returns : tie.Need-returns
 returns c =

@@ -17,13 +17,6 @@ use Rattle.lanes.proofs.Values.{normal-placed}
 use Rattle.lanes.proofs.Given.{bits-near, unit-near, effects-near, chosen-right, values-near}
 use Rattle.lanes.proofs.traffic.normal.Statement.{statement}
 use Rattle.lanes.proofs.traffic.normal.Tie as tie
-use Rattle.lanes.proofs.traffic.normal.Reads as reads
-use Rattle.lanes.proofs.traffic.normal.Lts as lts
-use Rattle.lanes.proofs.entries.choose_all.Reads as choose-all-reads
-use Rattle.lanes.proofs.sets.best_normal.Reads as best-normal-reads
-use Rattle.lanes.proofs.sets.set_sums.Reads as set-sums-reads
-use Rattle.lanes.proofs.traffic.placed.Reads as placed-reads
-use Rattle.lanes.proofs.traffic.value.Reads as value-reads
 
 choose-all-requires : tie.Need-choose-all-requires
 choose-all-requires c κs = let s = c .before .before in ((s .pre .0 .some, s .pre .0 .few), (s .pre .0 .near, effects-near (s .args .hn) (s .pre .1) (omega arith)))

@@ -8,9 +8,6 @@ use Rattle.lanes.specs.Traffic.{laneOf}
 use Rattle.lanes.proofs.Filled.{FilledTo, filled-none, filled-more}
 use Rattle.lanes.proofs.traffic.placed.Statement.{statement}
 use Rattle.lanes.proofs.traffic.placed.Tie as tie
-use Rattle.lanes.proofs.traffic.placed.Reads as reads
-use Rattle.lanes.proofs.traffic.placed.Lts as lts
-use Rattle.lanes.proofs.traffic.lane.Reads as lane-reads
 
 abbrev Inv-loop : tie.InvT-loop
 Inv-loop set ho n hn over lanes₀ i₀ lanes i = (i ≤ n) × FilledTo (λ k x. x ≡ laneOf set ho k (getD hn k noElement) (getD over k noElement)) 5 emptyLane i lanes

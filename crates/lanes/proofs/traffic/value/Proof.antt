@@ -12,9 +12,6 @@ use Rattle.exact.proofs.Rounding.{quotient-near}
 use Rattle.model.specs.Traffic.{effectOf}
 use Rattle.lanes.proofs.traffic.value.Statement.{statement}
 use Rattle.lanes.proofs.traffic.value.Tie as tie
-use Rattle.lanes.proofs.traffic.value.Reads as reads
-use Rattle.lanes.proofs.traffic.value.Lts as lts
-use Rattle.exact.proofs.rounded.Reads as rounded-reads
 
 module _ (s : tie.Start) where
   abbrev dynamic : Kept w64 1300 (pos (s .args .dynamic))
