@@ -5,7 +5,7 @@
 --   ultimate likewise
 --   refused NUMBER at PLACE
 -- Numbers are decimal, with a minus where below 0 and no zeros in front.
-use Prim.Native.Nat.{ℕ, zero, suc, _+_, _/_, _%_}
+use Prim.Native.Nat.{ℕ, zero, suc, _+_, _-_, _*_, _/_, _%_}
 use Prim.Native.Char.{code}
 use Prim.Native.String.{String}
 use Prim.Native.String as String
@@ -43,9 +43,13 @@ unfoldable pub signed : ℤ → List ℕ
 signed (pos n) = decimal n
 signed (negsuc n) = ascii "-" ++ decimal (suc n)
 
+-- a line of a greatest and a least
+abbrev pub reportLine : List ℕ → List ℕ → List ℕ → List ℕ
+reportLine name greatest least = name ++ ascii " greatest " ++ greatest ++ ascii " least " ++ least ++ ascii "\n"
+
 -- a live kind's line, in N·U
 abbrev pub trafficLine : List ℕ → Traffic → List ℕ
-trafficLine name t = name ++ ascii " greatest " ++ signed (t .greatest .value) ++ ascii " least " ++ signed (t .least .value) ++ ascii "\n"
+trafficLine name t = reportLine name (signed (t .greatest .value)) (signed (t .least .value))
 
 -- a value with its row, in thousandths of N·U
 abbrev pub governing : Governing → List ℕ
@@ -54,7 +58,7 @@ governing g = signed (g .value) ++ ascii " row " ++ decimal (g .row)
 -- a limit state's line
 abbrev pub stateLine : List ℕ → State → List ℕ
 stateLine name Absent = name ++ ascii " none\n"
-stateLine name (Reported greatest least) = name ++ ascii " greatest " ++ governing greatest ++ ascii " least " ++ governing least ++ ascii "\n"
+stateLine name (Reported greatest least) = reportLine name (governing greatest) (governing least)
 
 -- the four lines of an accepted job
 abbrev pub accountText : Account → List ℕ
@@ -69,3 +73,8 @@ refusalLine number place = ascii "refused " ++ decimal number ++ ascii " at " ++
 -- an answer: refusal 0 is acceptance
 abbrev pub answerText : Answer → List ℕ
 answerText a = if eqb (a .refusal) 0 then accountText (a .account) else refusalLine (a .refusal) (a .place)
+
+-- the number that digits stand for, as a reader takes them, after those that stand for m
+unfoldable pub numberFrom : ℕ → List ℕ → ℕ
+numberFrom m [] = m
+numberFrom m (c ∷ s) = numberFrom (10 * m + (c - code "0")) s

@@ -3,10 +3,6 @@ use Rattle.print.proofs.Texts.{and-then}
 use borrow.Author.Needs.{needs}
 use Rattle.print.proofs.put_account.Statement.{statement}
 use Rattle.print.proofs.put_account.Tie as tie
-use Rattle.print.proofs.put_account.Reads as reads
-use Rattle.print.proofs.put_account.Lts as lts
-use Rattle.print.proofs.put_state.Reads as put-state-reads
-use Rattle.print.proofs.put_traffic.Reads as put-traffic-reads
 
 slice-aggregate-put-traffic : tie.Need-slice-aggregate-put-traffic
 slice-aggregate-put-traffic c = search needs

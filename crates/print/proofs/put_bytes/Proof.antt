@@ -9,8 +9,6 @@ use Rattle.print.specs.Put.{Put}
 use Rattle.print.proofs.Texts.{nothing, byte, and-then, retold, ends}
 use Rattle.print.proofs.put_bytes.Statement.{statement}
 use Rattle.print.proofs.put_bytes.Tie as tie
-use Rattle.print.proofs.put_bytes.Reads as reads
-use Rattle.print.proofs.put_bytes.Lts as lts
 
 abbrev Inv-loop : tie.InvT-loop
 Inv-loop out₀ at bytes i₀ i-end out i = (i ≤ i-end) × (length out ≡ length out₀) × Put out₀ at (take i bytes) out (at + i)

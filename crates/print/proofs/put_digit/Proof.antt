@@ -3,8 +3,6 @@ use borrow.Author.Needs.{needs}
 use Rattle.print.proofs.Texts.{byte}
 use Rattle.print.proofs.put_digit.Statement.{statement}
 use Rattle.print.proofs.put_digit.Tie as tie
-use Rattle.print.proofs.put_digit.Reads as reads
-use Rattle.print.proofs.put_digit.Lts as lts
 
 cast-out : tie.Need-cast-out
 cast-out c = search needs

@@ -6,11 +6,6 @@ use Rattle.print.proofs.Signs.{signed-kept}
 use borrow.Author.Needs.{needs}
 use Rattle.print.proofs.put_governing.Statement.{statement}
 use Rattle.print.proofs.put_governing.Tie as tie
-use Rattle.print.proofs.put_governing.Reads as reads
-use Rattle.print.proofs.put_governing.Lts as lts
-use Rattle.print.proofs.put_bytes.Reads as put-bytes-reads
-use Rattle.print.proofs.put_decimal.Reads as put-decimal-reads
-use Rattle.print.proofs.put_signed.Reads as put-signed-reads
 
 put-signed-requires : tie.Need-put-signed-requires
 put-signed-requires c κs = search needs

@@ -3,10 +3,6 @@ use Rattle.print.proofs.Texts.{and-then}
 use borrow.Author.Needs.{needs}
 use Rattle.print.proofs.put_refusal.Statement.{statement}
 use Rattle.print.proofs.put_refusal.Tie as tie
-use Rattle.print.proofs.put_refusal.Reads as reads
-use Rattle.print.proofs.put_refusal.Lts as lts
-use Rattle.print.proofs.put_bytes.Reads as put-bytes-reads
-use Rattle.print.proofs.put_decimal.Reads as put-decimal-reads
 
 slice-aggregate-put-bytes : tie.Need-slice-aggregate-put-bytes
 slice-aggregate-put-bytes c = search needs

@@ -7,11 +7,6 @@ use Rattle.print.proofs.Signs.{signed-below, signed-above}
 use borrow.Author.Needs.{needs}
 use Rattle.print.proofs.put_signed.Statement.{statement}
 use Rattle.print.proofs.put_signed.Tie as tie
-use Rattle.print.proofs.put_signed.Reads as reads
-use Rattle.print.proofs.put_signed.Lts as lts
-use Rattle.print.proofs.magnitude.Reads as magnitude-reads
-use Rattle.print.proofs.put_bytes.Reads as put-bytes-reads
-use Rattle.print.proofs.put_decimal.Reads as put-decimal-reads
 
 slice-aggregate-put-bytes : tie.Need-slice-aggregate-put-bytes
 slice-aggregate-put-bytes c = search needs

@@ -5,10 +5,6 @@ use Rattle.print.proofs.Texts.{and-then, retold}
 use borrow.Author.Needs.{needs}
 use Rattle.print.proofs.put_state.Statement.{statement}
 use Rattle.print.proofs.put_state.Tie as tie
-use Rattle.print.proofs.put_state.Reads as reads
-use Rattle.print.proofs.put_state.Lts as lts
-use Rattle.print.proofs.put_bytes.Reads as put-bytes-reads
-use Rattle.print.proofs.put_governing.Reads as put-governing-reads
 
 put-bytes-requires : tie.Need-put-bytes-requires
 put-bytes-requires c κs = search needs

@@ -6,10 +6,6 @@ use Rattle.print.proofs.Signs.{signed-kept}
 use borrow.Author.Needs.{needs}
 use Rattle.print.proofs.put_traffic.Statement.{statement}
 use Rattle.print.proofs.put_traffic.Tie as tie
-use Rattle.print.proofs.put_traffic.Reads as reads
-use Rattle.print.proofs.put_traffic.Lts as lts
-use Rattle.print.proofs.put_bytes.Reads as put-bytes-reads
-use Rattle.print.proofs.put_signed.Reads as put-signed-reads
 
 put-bytes-requires : tie.Need-put-bytes-requires
 put-bytes-requires c κs = search needs

@@ -3,10 +3,6 @@ use Rattle.print.proofs.Texts.{retold, from-start, refused, accepted}
 use borrow.Author.Needs.{needs}
 use Rattle.print.proofs.text.Statement.{statement}
 use Rattle.print.proofs.text.Tie as tie
-use Rattle.print.proofs.text.Reads as reads
-use Rattle.print.proofs.text.Lts as lts
-use Rattle.print.proofs.put_account.Reads as put-account-reads
-use Rattle.print.proofs.put_refusal.Reads as put-refusal-reads
 
 put-refusal-requires : tie.Need-put-refusal-requires
 put-refusal-requires c κs = search needs
