@@ -23,16 +23,17 @@ byte s at b h =
       rest = drop-set-lt (at + 1) s at b (omega arith);
     }
 
+-- the bytes from r on, counted from p
+past : (l : List ℕ) (p k : ℕ) {r : ℕ} → r ≡ p + k → drop r l ≡ drop k (drop p l)
+past l p k e = ap (λ (n : ℕ). drop n l) e ∙ sym (drop-drop k p l)
+
 -- a text that starts where the first ends
 pub and-then : {s w v : List ℕ} {at p r : ℕ} {xs ys : List ℕ} → Put s at xs w p → Put w p ys v r → Put s at (xs ++ ys) v r
 and-then {s} {w} {v} {at} {p} {r} {xs} {ys} first next =
-    let cut : (l : List ℕ) → drop r l ≡ drop (length ys) (drop p l) =
-    λ l. ap (λ (n : ℕ). drop n l) (next .long) ∙ sym (drop-drop (length ys) p l)
-    in
     record {
       long = omega (arith, length-append xs ys, first .long, next .long);
       is = next .is ∙ ap (λ (l : List ℕ). l ++ ys) (first .is) ∙ append-assoc (take at s) xs ys;
-      rest = next .rest ∙ cut w ∙ ap (drop (length ys)) (first .rest) ∙ sym (cut s);
+      rest = next .rest ∙ past w p (length ys) (next .long) ∙ ap (drop (length ys)) (first .rest) ∙ sym (past s p (length ys) (next .long));
     }
 
 -- the same text, said otherwise
@@ -46,11 +47,9 @@ ends {s} {w} {at} {q} {r} {xs} e h = subst (λ (n : ℕ). Put s at xs w n) e h
 -- from a buffer's start: the text, and the rest as it was
 pub from-start : {s w xs : List ℕ} {r : ℕ} → Put s 0 xs w r → r ≤ length w → ((r ≤ length w) × (r ≡ length (take r w))) × ((r ≡ length xs) × (w ≡ xs ++ drop r s))
 from-start {s} {w} {xs} {r} h room =
-    let e : r ≡ length xs = omega (arith, h .long) in
-    let all : w ≡ xs ++ drop r s =
-    sym (take-append-drop r w) ∙ ap (λ (l : List ℕ). l ++ drop r w) (h .is) ∙ ap (λ (l : List ℕ). xs ++ l) (h .rest)
-    in
-    ((room, sym (length-take-le r w room)), (e, all))
+    let first = ap (λ (l : List ℕ). l ++ drop r w) (h .is) in
+    let rest = ap (λ (l : List ℕ). xs ++ l) (h .rest) in
+    ((room, sym (length-take-le r w room)), (omega (arith, h .long), sym (take-append-drop r w) ∙ first ∙ rest))
 
 pub refused : (a : Answer) → (a .refusal ≡ 0 → ⊥) → refusalLine (a .refusal) (a .place) ≡ answerText a
 refused a f = sym (ap (λ (b : Bool). cond b (accountText (a .account)) (refusalLine (a .refusal) (a .place))) (ne-eqb _ _ f))
