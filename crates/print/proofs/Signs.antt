@@ -1,6 +1,7 @@
--- A signed number's magnitude, by its sign.
-use mathlib.Core.Path.{_≡_, ap, sym, subst, _∙_}
+-- A signed number's magnitude and text, by its sign.
+use mathlib.Core.Path.{_≡_, refl, ap, sym, subst, _∙_}
 use mathlib.Core.Bool.{Bool, true, false, cond}
+use mathlib.Core.List.{List, _++_}
 use Prim.Native.Nat.{ℕ, suc, _+_, _-_, _<_, _^_}
 use native.Mathlib.Omega.{arith}
 use native.Mathlib.Numerals.{add-one}
@@ -11,6 +12,9 @@ use borrow.Author.Tests.{le-ltb, ltb-true}
 use mir.Syntax.{w64}
 use mir.Val.{SFits, toZ, ofZ}
 use mir.Facts.{toZ-ofZ}
+use Rattle.print.specs.Text.{ascii, decimal, signed}
+use Rattle.print.specs.Put.{Put}
+use Rattle.print.proofs.Texts.{retold}
 
 -- -1 less a number below 0
 flip : (n : ℕ) → negsuc 0 -ℤ negsuc n ≡ pos n
@@ -45,3 +49,18 @@ pub record Above (z : ℤ) : Type 0 where
 pub above : (z : ℤ) → SFits w64 z → ltZ z (pos 0) ≡ false → Above z
 above (pos n) f t = record { sign = tt; small = f .sfits }
 above (negsuc n) f t = absurd (subst T t tt)
+
+-- the text of a number below 0, and of another
+pub signed-below : (z : ℤ) → ltZ z (pos 0) ≡ true → ascii "-" ++ decimal (natAbs z) ≡ signed z
+unfolding signed
+signed-below (pos n) t = let h : n < 0 = ltb-true n 0 t in absurd (omega arith)
+signed-below (negsuc n) t = refl
+
+pub signed-above : (z : ℤ) → ltZ z (pos 0) ≡ false → decimal (natAbs z) ≡ signed z
+unfolding signed
+signed-above (pos n) t = refl
+signed-above (negsuc n) t = absurd (subst T t tt)
+
+-- the text of a number that was read back from its bits
+pub signed-kept : {s w : List ℕ} {at r : ℕ} {z : ℤ} → SFits w64 z → Put s at (signed (toZ w64 (ofZ w64 z))) w r → Put s at (signed z) w r
+signed-kept f h = retold (ap signed (toZ-ofZ f)) h

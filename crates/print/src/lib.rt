@@ -1,11 +1,63 @@
-// What the programs print of an answer. The text is tested, not proved.
+// What the programs print of an answer; specs/Text.antt says what the text is. Each `put_` function puts a text into `out` from `at` on and answers where it ends.
 use model::Account;
 use model::Answer;
 use model::Governing;
 use model::State;
 use model::Traffic;
 ghost use mathlib.Core.Path.{_≡_};
+ghost use mathlib.Core.List.{_++_};
+ghost use Prim.Native.Nat.{_+_, _≤_, _<_};
 ghost use lib.IntN.{natAbs};
+ghost use lib.ListN.{length, take, drop};
+ghost use Rattle.print.specs.Text.{digit, digits, decimal, signed, governing, trafficLine, stateLine, accountText, refusalLine, answerText};
+ghost use Rattle.print.specs.Put.{Put};
+
+// Room for every answer's text.
+pub const SIZE: usize = 384;
+
+fn put_bytes(out: &mut [u8], at: usize, bytes: &[u8]) -> usize
+    requires { ⌜ at + length (now bytes) ≤ length (now out) ⌝ }
+    ensures { λ r. ⌜ Put (now (out .entry)) at (now (bytes .entry)) (now (out .exit)) r ⌝ }
+{
+    for i in 0..bytes.len() {
+        out[at + i] = bytes[i];
+    }
+    at + bytes.len()
+}
+
+// A digit from 0 to 9.
+fn put_digit(out: &mut [u8], at: usize, d: u64) -> usize
+    requires { ⌜ at + 1 ≤ length (now out) ⌝ }
+    requires { ⌜ d < 10 ⌝ }
+    ensures { λ r. ⌜ Put (now (out .entry)) at (digit d) (now (out .exit)) r ⌝ }
+{
+    out[at] = b'0' + d as u8;
+    at + 1
+}
+
+// The last `places` digits of a number, or all where it has fewer.
+fn put_digits(out: &mut [u8], at: usize, n: u64, places: usize) -> usize
+    requires { ⌜ at + places ≤ length (now out) ⌝ }
+    ensures { λ r. ⌜ Put (now (out .entry)) at (digits places n) (now (out .exit)) r ⌝ }
+    ensures { λ r. ⌜ r ≤ at + places ⌝ }
+{
+    if places == 0 {
+        return at;
+    }
+    if n < 10 {
+        return put_digit(out, at, n);
+    }
+    let last = put_digits(out, at, n / 10, places - 1);
+    put_digit(out, last, n % 10)
+}
+
+fn put_decimal(out: &mut [u8], at: usize, n: u64) -> usize
+    requires { ⌜ at + 20 ≤ length (now out) ⌝ }
+    ensures { λ r. ⌜ Put (now (out .entry)) at (decimal n) (now (out .exit)) r ⌝ }
+    ensures { λ r. ⌜ r ≤ at + 20 ⌝ }
+{
+    put_digits(out, at, n, 20)
+}
 
 // A number without its sign.
 fn magnitude(v: i64) -> u64
@@ -19,78 +71,103 @@ fn magnitude(v: i64) -> u64
     }
 }
 
-fn print_signed(v: i64) {
+fn put_signed(out: &mut [u8], at: usize, v: i64) -> usize
+    requires { ⌜ at + 21 ≤ length (now out) ⌝ }
+    ensures { λ r. ⌜ Put (now (out .entry)) at (signed v) (now (out .exit)) r ⌝ }
+    ensures { λ r. ⌜ r ≤ at + 21 ⌝ }
+{
     if v < 0 {
-        io::write_all(1, b"-");
+        let end = put_bytes(out, at, b"-");
+        put_decimal(out, end, magnitude(v))
+    } else {
+        put_decimal(out, at, magnitude(v))
     }
-    io::print_decimal(1, magnitude(v));
 }
 
 // A live kind's line, in N·U.
-fn print_traffic(t: Traffic) {
+fn put_traffic(out: &mut [u8], at: usize, name: &[u8], t: Traffic) -> usize
+    requires { ⌜ at + length (now name) + 60 ≤ length (now out) ⌝ }
+    ensures { λ r. ⌜ Put (now (out .entry)) at (trafficLine (now (name .entry)) t) (now (out .exit)) r ⌝ }
+    ensures { λ r. ⌜ r ≤ at + length (now (name .entry)) + 60 ⌝ }
+{
     let g = t.greatest;
     let l = t.least;
-    io::write_all(1, b" greatest ");
-    print_signed(g.value);
-    io::write_all(1, b" least ");
-    print_signed(l.value);
-    io::write_all(1, b"\n");
+    let mut end = put_bytes(out, at, name);
+    end = put_bytes(out, end, b" greatest ");
+    end = put_signed(out, end, g.value);
+    end = put_bytes(out, end, b" least ");
+    end = put_signed(out, end, l.value);
+    put_bytes(out, end, b"\n")
 }
 
 // A value with its row, in thousandths of N·U.
-fn print_governing(g: Governing) {
-    print_signed(g.value);
-    io::write_all(1, b" row ");
-    io::print_decimal(1, g.row as u64);
+fn put_governing(out: &mut [u8], at: usize, g: Governing) -> usize
+    requires { ⌜ at + 46 ≤ length (now out) ⌝ }
+    ensures { λ r. ⌜ Put (now (out .entry)) at (governing g) (now (out .exit)) r ⌝ }
+    ensures { λ r. ⌜ r ≤ at + 46 ⌝ }
+{
+    let mut end = put_signed(out, at, g.value);
+    end = put_bytes(out, end, b" row ");
+    put_decimal(out, end, g.row as u64)
 }
 
 // A limit state's line.
-fn print_state(s: State) {
+fn put_state(out: &mut [u8], at: usize, name: &[u8], s: State) -> usize
+    requires { ⌜ at + length (now name) + 110 ≤ length (now out) ⌝ }
+    ensures { λ r. ⌜ Put (now (out .entry)) at (stateLine (now (name .entry)) s) (now (out .exit)) r ⌝ }
+    ensures { λ r. ⌜ r ≤ at + length (now (name .entry)) + 110 ⌝ }
+{
+    let mut end = put_bytes(out, at, name);
     match s {
-        State::Absent => {
-            io::write_all(1, b" none\n");
-        }
+        State::Absent => put_bytes(out, end, b" none\n"),
         State::Reported { greatest, least } => {
-            io::write_all(1, b" greatest ");
-            print_governing(greatest);
-            io::write_all(1, b" least ");
-            print_governing(least);
-            io::write_all(1, b"\n");
+            end = put_bytes(out, end, b" greatest ");
+            end = put_governing(out, end, greatest);
+            end = put_bytes(out, end, b" least ");
+            end = put_governing(out, end, least);
+            put_bytes(out, end, b"\n")
         }
     }
 }
 
 // The four lines of an accepted job.
-fn print_account(a: Account) {
+fn put_account(out: &mut [u8], a: Account) -> usize
+    requires { ⌜ 384 ≤ length (now out) ⌝ }
+    ensures { λ r. ⌜ Put (now (out .entry)) 0 (accountText a) (now (out .exit)) r ⌝ }
+    ensures { λ r. ⌜ r ≤ 384 ⌝ }
+{
     let normal = a.normal;
     let overload = a.overload;
     let service = a.service;
     let ultimate = a.ultimate;
-    io::write_all(1, b"normal");
-    print_traffic(normal);
-    io::write_all(1, b"overload");
-    print_traffic(overload);
-    io::write_all(1, b"service");
-    print_state(service);
-    io::write_all(1, b"ultimate");
-    print_state(ultimate);
+    let mut end = put_traffic(out, 0, b"normal", normal);
+    end = put_traffic(out, end, b"overload", overload);
+    end = put_state(out, end, b"service", service);
+    put_state(out, end, b"ultimate", ultimate)
 }
 
 // The line of a refused job.
-fn print_refusal(number: u32, place: usize) {
-    io::write_all(1, b"refused ");
-    io::print_decimal(1, number as u64);
-    io::write_all(1, b" at ");
-    io::print_decimal(1, place as u64);
-    io::write_all(1, b"\n");
+fn put_refusal(out: &mut [u8], number: u32, place: usize) -> usize
+    requires { ⌜ 384 ≤ length (now out) ⌝ }
+    ensures { λ r. ⌜ Put (now (out .entry)) 0 (refusalLine number place) (now (out .exit)) r ⌝ }
+    ensures { λ r. ⌜ r ≤ 384 ⌝ }
+{
+    let mut end = put_bytes(out, 0, b"refused ");
+    end = put_decimal(out, end, number as u64);
+    end = put_bytes(out, end, b" at ");
+    end = put_decimal(out, end, place as u64);
+    put_bytes(out, end, b"\n")
 }
 
-// A job's four lines, or its refusal.
-pub fn print_answer(a: Answer) {
+// Puts an answer's text at the start of a buffer, leaves the rest of it as it was, and answers the text's length. The first clause serves a caller that lends `&out[..r]`.
+pub fn text(a: Answer, out: &mut [u8; SIZE]) -> usize
+    ensures { λ r. ⌜ (r ≤ length (now (out .exit))) × (r ≡ length (take r (now (out .exit)))) ⌝ }
+    ensures { λ r. ⌜ r ≡ length (answerText a) ⌝ }
+    ensures { λ r. ⌜ now (out .exit) ≡ answerText a ++ drop r (now (out .entry)) ⌝ }
+{
     if a.refusal != 0 {
-        print_refusal(a.refusal, a.place);
-        return;
+        return put_refusal(out, a.refusal, a.place);
     }
     let account = a.account;
-    print_account(account);
+    put_account(out, account)
 }

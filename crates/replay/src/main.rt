@@ -1,4 +1,5 @@
 // Answers every case of the file `jobs` and prints what comes of each. A case is the job's length and the patch buffer's, in two bytes each, low byte first, then the patch buffer and the job.
+use model::Answer;
 ghost use Prim.Native.Nat.{_≤_};
 ghost use lib.ListN.{length};
 
@@ -30,17 +31,24 @@ fn weighted_sum(bytes: &[u8]) -> usize
     sum
 }
 
-// Reads the rest of a case into buffers of its lengths, and prints what comes of it.
-fn answer(fd: i32, job: &mut [u8], patch: &mut [u8])
+// Prints an answer and its patch buffer's sum, and answers whether all was written.
+fn show(a: Answer, sum: usize) -> bool {
+    let mut text = [0u8; print::SIZE];
+    let end = print::text(a, &mut text);
+    io::write_all(1, &text[..end])
+        && io::write_all(1, b"patch ")
+        && io::print_decimal(1, sum as u64)
+        && io::write_all(1, b"\n")
+}
+
+// Reads the rest of a case into buffers of its lengths, prints what comes of it, and answers whether all was written.
+fn answer(fd: i32, job: &mut [u8], patch: &mut [u8]) -> bool
     requires { ⌜ length (now patch) ≤ 65535 ⌝ }
 {
     io::read_full(fd, patch);
     let n = io::read_full(fd, job);
     let a = kernel::solve(&job[..n], patch);
-    print::print_answer(a);
-    io::write_all(1, b"patch ");
-    io::print_decimal(1, weighted_sum(patch) as u64);
-    io::write_all(1, b"\n");
+    show(a, weighted_sum(patch))
 }
 
 // Reads one case, prints what comes of it, and answers whether to go on.
@@ -54,8 +62,11 @@ fn one(fd: i32) -> bool {
     let m = wide(head[2]) + 256 * wide(head[3]);
     let mut job = [0u8; 65535];
     let mut patch = [0u8; 65535];
-    answer(fd, &mut job[0..n], &mut patch[0..m]);
-    true
+    if answer(fd, &mut job[0..n], &mut patch[0..m]) {
+        return true;
+    }
+    os::fail(b"standard output");
+    false
 }
 
 fn all(fd: i32) {

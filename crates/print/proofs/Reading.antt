@@ -1,0 +1,159 @@
+-- A reader of the text finds the numbers, and takes no text that was cut short for an answer.
+use mathlib.Core.Path.{_≡_, refl, sym, ap, _∙_}
+use mathlib.Core.Bool.{Bool, true, false, cond}
+use mathlib.Core.List.{List, [], _∷_, _++_, append-assoc}
+use Prim.Native.Nat.{ℕ, zero, suc, _+_, _*_, _/_, _%_, _^_, _<_}
+use native.Mathlib.Nat.{pow-succ'}
+use native.Mathlib.Omega.{arith}
+use Prim.Native.String.{String}
+use lib.Dec.{ltb, eqb}
+use lib.IntN.{ℤ, pos, negsuc}
+use lib.ListN.{getD}
+use borrow.Author.Tests.{ne-eqb}
+use Rattle.exact.specs.Choice.{if_then_else_}
+use Rattle.model.specs.declared.Traffic.{Traffic}
+use Rattle.model.specs.declared.Governing.{Governing}
+use Rattle.model.specs.declared.State.{State}
+use Rattle.model.specs.declared.State.the-variants.{Absent, Reported}
+use Rattle.model.specs.declared.Account.{Account}
+use Rattle.model.specs.declared.Answer.{Answer}
+use Rattle.print.specs.Text.{ascii, digit, digits, decimal, signed, governing, reportLine, trafficLine, stateLine, accountText, refusalLine, answerText, numberFrom}
+
+-- one digit more
+number-digit : (s : List ℕ) (m d : ℕ) → numberFrom m (s ++ digit d) ≡ 10 * numberFrom m s + d
+unfolding numberFrom
+number-digit [] m d = omega arith
+number-digit (c ∷ s) m d = number-digit s _ d
+
+digits-read : (k n : ℕ) → n < 10 ^ k → numberFrom 0 (digits k n) ≡ n
+unfolding numberFrom digits
+digits-read zero n h = omega arith
+digits-read (suc k) n h = by (ltb n 10) (digits-read k (n / 10))
+  where
+    by : (b : Bool) → (n / 10 < 10 ^ k → numberFrom 0 (digits k (n / 10)) ≡ n / 10) →
+        numberFrom 0 (cond b (digit n) (digits k (n / 10) ++ digit (n % 10))) ≡ n
+    by true tenth = omega arith
+    by false tenth =
+        let p : 10 ^ suc k ≡ 10 * 10 ^ k = pow-succ' 10 k in
+        let t = tenth (omega arith) in
+        number-digit (digits k (n / 10)) 0 (n % 10) ∙ omega arith
+
+-- A NUMBER IS READ BACK, as every one of 64 bits
+pub decimal-read : (n : ℕ) → n < 2 ^ 64 → numberFrom 0 (decimal n) ≡ n
+decimal-read n h = digits-read 20 n (omega arith)
+
+-- how many newlines are in a text
+unfoldable newlines : List ℕ → ℕ
+newlines [] = 0
+newlines (c ∷ s) = (if eqb c 10 then 1 else 0) + newlines s
+
+newlines-append : (s t : List ℕ) → newlines (s ++ t) ≡ newlines s + newlines t
+unfolding newlines
+newlines-append [] t = omega arith
+newlines-append (c ∷ s) t = let e = newlines-append s t in omega arith
+
+-- a text of n lines, as far as they have ended
+record Lines (s : List ℕ) (n : ℕ) : Type 0 where
+  count : newlines s ≡ n
+
+and-lines : {s t : List ℕ} {m n : ℕ} → Lines s m → Lines t n → Lines (s ++ t) (m + n)
+and-lines {s} {t} a b = let e = newlines-append s t in record { count = omega (arith, a .count, b .count) }
+
+-- a text whose last byte is a newline
+record Ended (s : List ℕ) : Type 0 where
+  body : List ℕ
+  is : s ≡ body ++ (10 ∷ [])
+
+and-ended : (s : List ℕ) {t : List ℕ} → Ended t → Ended (s ++ t)
+and-ended s e = record { body = s ++ e .body; is = ap (λ (l : List ℕ). s ++ l) (e .is) ∙ sym (append-assoc s (e .body) _) }
+
+-- what is left behind a part with all the newlines is nothing
+none-left : (t rest : List ℕ) → [] ≡ t ++ rest → rest ≡ []
+none-left [] rest e = sym e
+none-left (c ∷ t) rest e = let z : _≡_ {A = ℕ} 0 1 = cc in absurd (omega arith)
+
+nothing-left : (s t rest : List ℕ) → s ++ (10 ∷ []) ≡ t ++ rest → newlines rest ≡ 0 → rest ≡ []
+unfolding newlines
+nothing-left [] [] rest e z = absurd (omega (arith, ap newlines e))
+nothing-left [] (c ∷ t) rest e z = none-left t rest (cc)
+nothing-left (b ∷ s) [] rest e z = absurd (omega (arith, ap newlines e, newlines-append s (10 ∷ [])))
+nothing-left (b ∷ s) (c ∷ t) rest e z = nothing-left s t rest (cc) z
+
+same-lines : {s t rest : List ℕ} {n : ℕ} → Lines s n → Lines t n → Ended s → s ≡ t ++ rest → rest ≡ []
+same-lines {s} {t} {rest} a b l e =
+    let f : newlines s ≡ newlines t + newlines rest = ap newlines e ∙ newlines-append t rest in
+    nothing-left (l .body) t rest (sym (l .is) ∙ e) (omega (arith, a .count, b .count))
+
+digit-line : (d : ℕ) → Lines (digit d) 0
+unfolding newlines
+digit-line d = record { count = ap (λ (b : Bool). cond b 1 0 + 0) (ne-eqb (48 + d) 10 (λ e. omega arith)) }
+
+either : (b : Bool) {s t : List ℕ} {n : ℕ} → Lines s n → Lines t n → Lines (cond b s t) n
+either true p q = p
+either false p q = q
+
+digits-line : (k n : ℕ) → Lines (digits k n) 0
+unfolding newlines digits
+digits-line zero n = record { count = refl }
+digits-line (suc k) n = either (ltb n 10) (digit-line n) (and-lines (digits-line k (n / 10)) (digit-line (n % 10)))
+
+word : (s : String) → Lines (ascii s) (newlines (ascii s))
+word s = record { count = refl }
+
+signed-line : (z : ℤ) → Lines (signed z) 0
+unfolding newlines signed
+signed-line (pos n) = digits-line 20 n
+signed-line (negsuc n) = and-lines (word "-") (digits-line 20 (suc n))
+
+report-lines : {name g l : List ℕ} → Lines name 0 → Lines g 0 → Lines l 0 → Lines (reportLine name g l) 1
+unfolding newlines
+report-lines name g l = and-lines (and-lines (and-lines (and-lines (and-lines name (word " greatest ")) g) (word " least ")) l) (word "\n")
+
+traffic-lines : {name : List ℕ} (t : Traffic) → Lines name 0 → Lines (trafficLine name t) 1
+traffic-lines t name = report-lines name (signed-line (t .greatest .value)) (signed-line (t .least .value))
+
+governing-lines : (g : Governing) → Lines (governing g) 0
+unfolding newlines
+governing-lines g = and-lines (and-lines (signed-line (g .value)) (word " row ")) (digits-line 20 (g .row))
+
+state-lines : {name : List ℕ} (s : State) → Lines name 0 → Lines (stateLine name s) 1
+unfolding newlines
+state-lines Absent name = and-lines name (word " none\n")
+state-lines (Reported g l) name = report-lines name (governing-lines g) (governing-lines l)
+
+account-lines : (a : Account) → Lines (accountText a) 4
+unfolding newlines
+account-lines a =
+    and-lines
+    (and-lines (and-lines (traffic-lines (a .normal) (word "normal")) (traffic-lines (a .overload) (word "overload"))) (state-lines (a .service) (word "service")))
+    (state-lines (a .ultimate) (word "ultimate"))
+
+refusal-lines : (number place : ℕ) → Lines (refusalLine number place) 1
+unfolding newlines
+refusal-lines number place =
+    and-lines (and-lines (and-lines (and-lines (word "refused ") (digits-line 20 number)) (word " at ")) (digits-line 20 place)) (word "\n")
+
+state-ended : (name : List ℕ) (s : State) → Ended (stateLine name s)
+state-ended name Absent = and-ended name (record { body = ascii " none"; is = refl })
+state-ended name (Reported g l) = record { body = name ++ ascii " greatest " ++ governing g ++ ascii " least " ++ governing l; is = refl }
+
+account-ended : (a : Account) → Ended (accountText a)
+account-ended a =
+    and-ended
+    (trafficLine (ascii "normal") (a .normal) ++ trafficLine (ascii "overload") (a .overload) ++ stateLine (ascii "service") (a .service))
+    (state-ended (ascii "ultimate") (a .ultimate))
+
+refusal-ended : (number place : ℕ) → Ended (refusalLine number place)
+refusal-ended number place = record { body = ascii "refused " ++ decimal number ++ ascii " at " ++ decimal place; is = refl }
+
+-- NO ANSWER'S TEXT BEGINS ANOTHER'S: one that was cut short is no answer's
+pub cut-short : (a b : Answer) (rest : List ℕ) → answerText a ≡ answerText b ++ rest → rest ≡ []
+cut-short a b rest = by (eqb (a .refusal) 0) (eqb (b .refusal) 0)
+  where
+    by : (p q : Bool) →
+        cond p (accountText (a .account)) (refusalLine (a .refusal) (a .place)) ≡ cond q (accountText (b .account)) (refusalLine (b .refusal) (b .place)) ++ rest →
+        rest ≡ []
+    by true true e = same-lines (account-lines (a .account)) (account-lines (b .account)) (account-ended (a .account)) e
+    by false false e = same-lines (refusal-lines (a .refusal) (a .place)) (refusal-lines (b .refusal) (b .place)) (refusal-ended (a .refusal) (a .place)) e
+    by true false e = let n : _≡_ {A = ℕ} 110 114 = ap (λ (s : List ℕ). getD s 0 0) e in absurd (omega arith)
+    by false true e = let n : _≡_ {A = ℕ} 114 110 = ap (λ (s : List ℕ). getD s 0 0) e in absurd (omega arith)

@@ -1,0 +1,65 @@
+use mathlib.Core.Path.{ap, _∙_}
+use native.Mathlib.Omega.{arith}
+use mir.Facts.{toZ-ofZ}
+use Rattle.print.specs.Text.{decimal, signed}
+use Rattle.print.proofs.Texts.{and-then, retold}
+use Rattle.print.proofs.Signs.{signed-below, signed-above}
+use borrow.Author.Needs.{needs}
+use Rattle.print.proofs.put_signed.Statement.{statement}
+use Rattle.print.proofs.put_signed.Tie as tie
+
+slice-aggregate-put-bytes : tie.Need-slice-aggregate-put-bytes
+slice-aggregate-put-bytes c = search needs
+
+put-bytes-requires : tie.Need-put-bytes-requires
+put-bytes-requires c κs = search needs
+
+magnitude-requires : tie.Need-magnitude-requires
+magnitude-requires c κs = search needs
+
+put-decimal-requires : tie.Need-put-decimal-requires
+put-decimal-requires c κs = search needs
+
+magnitude-requires-2 : tie.Need-magnitude-requires-2
+magnitude-requires-2 c κs = search needs
+
+put-decimal-requires-2 : tie.Need-put-decimal-requires-2
+put-decimal-requires-2 c κs = search needs
+
+same-length : tie.Need-same-length
+same-length c = search needs
+
+returns : tie.Need-returns
+returns c =
+    let p2 = c .before .before in
+    let p1 = p2 .before .before .before .before .before in
+    let s = p1 .before .before .before .before .before in
+    let number = retold (ap decimal (p2 .before .magnitude .ensures)) (p2 .put-decimal .ensures .0) in
+    let e = signed-below _ (p1 .before .before .before .if1 .taken) ∙ ap signed (toZ-ofZ (s .fits .v)) in
+    (retold e (and-then (p1 .put-bytes .ensures) number), omega (arith, p1 .put-bytes .ensures .long, p2 .put-decimal .ensures .1))
+
+same-length-2 : tie.Need-same-length-2
+same-length-2 c = search needs
+
+returns-2 : tie.Need-returns-2
+returns-2 c =
+    let p = c .before .before in
+    let s = p .before .before .before .before .before in
+    let number = retold (ap decimal (p .before .magnitude2 .ensures)) (p .put-decimal2 .ensures .0) in
+    let e = signed-above _ (p .before .before .before .if1 .left) ∙ ap signed (toZ-ofZ (s .fits .v)) in
+    (retold e number, omega arith)
+
+pub put-signed-spec : {M : Type 1} → statement M
+put-signed-spec =
+    tie.close
+    (tie.spec
+    slice-aggregate-put-bytes
+    put-bytes-requires
+    magnitude-requires
+    put-decimal-requires
+    magnitude-requires-2
+    put-decimal-requires-2
+    same-length
+    returns
+    same-length-2
+    returns-2)

@@ -1,0 +1,56 @@
+#!/usr/bin/env bash
+# The program hnho on good, empty, overlong and unreadable input, and on output that cannot be written or only in part. Its products are in target/program.
+# Each run has status 0, as a program of the kit has none to set: what is wrong must stand on standard error.
+set -u
+cd "$(dirname "$0")/.." || exit 2
+
+program=target/bin/hnho
+dir=target/program
+
+fail() {
+  printf 'program.sh: FAILED: %s\n' "$1" >&2
+  exit 1
+}
+
+# check NAME STATUS TEXT ERROR: the run's status, its standard output in $dir/out and its standard error in $dir/err
+check() {
+  [ "$2" -eq 0 ] || fail "$1: status $2, due is 0"
+  printf '%s' "$3" | cmp - "$dir/out" || fail "$1: standard output"
+  printf '%s' "$4" | cmp - "$dir/err" || fail "$1: standard error"
+}
+
+# run NAME TEXT ERROR: runs the program on the standard input of this function
+run() {
+  "$program" >"$dir/out" 2>"$dir/err"
+  check "$1" $? "$2" "$3"
+}
+
+# run_full NAME ERROR: the same onto a device that is full
+run_full() {
+  : >"$dir/out"
+  "$program" >/dev/full 2>"$dir/err"
+  check "$1" $? '' "$2"
+}
+
+# run_cut NAME TEXT ERROR: the same onto the end of a file that has 100 bytes left to a limit of 1 KiB
+run_cut() {
+  head -c 924 /dev/zero >"$dir/file"
+  (trap '' XFSZ; ulimit -f 1; exec "$program" >>"$dir/file" 2>"$dir/err")
+  local status=$?
+  tail -c +925 "$dir/file" >"$dir/out"
+  check "$1" "$status" "$2" "$3"
+}
+
+command -v rt >/dev/null || fail 'rt is not on PATH'
+mkdir -p "$dir" || fail "$dir cannot be made"
+rt check hnho >"$dir/rt.log" 2>&1 || { tail -n 20 "$dir/rt.log" >&2; fail 'rt check hnho'; }
+
+job=examples/job-a.bin
+text=$(cat crates/hnho/stdout)$'\n'
+run 'Job A' "$text" '' <"$job"
+run 'empty input' $'refused 1 at 0\n' '' </dev/null
+run 'input of 20000 bytes' $'refused 3 at 85\n' '' < <(cat "$job"; head -c 19660 /dev/zero)
+run 'a directory as input' '' $'standard input: Is a directory\n' </
+run_full 'a full device as output' $'standard output: No space left on device\n' <"$job"
+run_cut 'a file with too little room as output' "${text:0:100}" $'standard output: File too large\n' <"$job"
+printf 'program.sh: what hnho prints and says is as due\n'
