@@ -1,5 +1,5 @@
 #!/usr/bin/env bash
-# The program hnho on good, empty, overlong and unreadable input, and on output that cannot be written or only in part. Its products are in target/program.
+# The program hnho on good, empty, overlong, unreadable and failing input, and on output that cannot be written or only in part. Its products are in target/program.
 # Each run has status 0, as a program of the kit has none to set: what is wrong must stand on standard error.
 set -u
 cd "$(dirname "$0")/.." || exit 2
@@ -23,6 +23,13 @@ check() {
 run() {
   "$program" >"$dir/out" 2>"$dir/err"
   check "$1" $? "$2" "$3"
+}
+
+# run_failing NAME ERROR: the same on an input that fails after its first bytes
+run_failing() {
+  gcc -std=c99 -O1 -Wall -Wextra -Werror -shared -fPIC tests/failing_read.c -o "$dir/failing_read.so" || fail 'gcc of tests/failing_read.c'
+  LD_PRELOAD="$dir/failing_read.so" "$program" >"$dir/out" 2>"$dir/err"
+  check "$1" $? '' "$2"
 }
 
 # run_full NAME ERROR: the same onto a device that is full
@@ -51,6 +58,7 @@ run 'Job A' "$text" '' <"$job"
 run 'empty input' $'refused 1 at 0\n' '' </dev/null
 run 'input of 20000 bytes' $'refused 3 at 85\n' '' < <(cat "$job"; head -c 19660 /dev/zero)
 run 'a directory as input' '' $'standard input: Is a directory\n' </
+run_failing 'an input that fails half-way' $'standard input: Input/output error\n' <"$job"
 run_full 'a full device as output' $'standard output: No space left on device\n' <"$job"
 run_cut 'a file with too little room as output' "${text:0:100}" $'standard output: File too large\n' <"$job"
 printf 'program.sh: what hnho prints and says is as due\n'

@@ -2,11 +2,9 @@
 fn main() {
     let mut buffer = [0u8; 16384];
     let n = io::read_full(0, &mut buffer);
-    if n == 0 {
-        if os::errno() != 0 {
-            os::fail(b"standard input");
-            return;
-        }
+    if os::errno() != 0 {
+        os::fail(b"standard input");
+        return;
     }
     let mut patch = [0u8; 1000];
     let answer = kernel::solve(&buffer[..n], &mut patch);
