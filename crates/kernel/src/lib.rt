@@ -17,6 +17,8 @@ use model::Account;
 use model::Answer;
 use model::Entry;
 use model::Extreme;
+use model::Hn;
+use model::Ho;
 use model::Lane;
 use model::Placement;
 use model::Position;
@@ -27,11 +29,12 @@ use model::Traffic;
 use rows::state;
 use rows::state::Live;
 ghost use mathlib.Core.Path.{_≡_};
-ghost use Prim.Native.Nat.{_≤_};
-ghost use lib.IntN.{_+ℤ_, _*ℤ_};
+ghost use Prim.Native.Nat.{_+_, _*_, _≤_};
+ghost use lib.IntN.{pos, _+ℤ_, _*ℤ_};
+ghost use lib.Signed.{_≤ℤ_};
+ghost use Rattle.exact.specs.Parts.{up};
 ghost use Rattle.exact.specs.Bounds.{Within};
 ghost use Rattle.model.specs.Decode.{decode, limitOf};
-ghost use Rattle.model.specs.Line.{HN, HO, axle};
 ghost use Rattle.model.specs.Answered.{zeroTraffic, refusalAnswer, Answered};
 ghost use Rattle.line.specs.Sought.{SoughtNear, SoughtRight, SensesRight};
 ghost use Rattle.rows.specs.Governed.{trafficOf, LiveFits, StateFound};
@@ -90,27 +93,16 @@ fn sought(job: &[u8], head: Header) -> Senses
     effect::seek(sections::line(job, head), head.h, head.pieces)
 }
 
-// The HN line effects.
-fn hn_effects(raising: Sought, lowering: Sought) -> Effects
+// A kind's line effects, by its axle load.
+fn effects(axle: i64, raising: Sought, lowering: Sought) -> Effects
+    requires { ⌜ (pos 0 ≤ℤ axle) × Within 3200 axle ⌝ }
     requires { ⌜ SoughtNear raising × SoughtNear lowering ⌝ }
-    ensures { λ r. ⌜ (r .raising ≡ raising .uniform +ℤ axle HN *ℤ raising .pair) × (r .lowering ≡ lowering .uniform +ℤ axle HN *ℤ lowering .pair) ⌝ }
-    ensures { λ r. ⌜ Within 86000000 (r .raising) × Within 86000000 (r .lowering) ⌝ }
+    ensures { λ r. ⌜ (r .raising ≡ raising .uniform +ℤ axle *ℤ raising .pair) × (r .lowering ≡ lowering .uniform +ℤ axle *ℤ lowering .pair) ⌝ }
+    ensures { λ r. ⌜ Within (70000000 + up axle * 10000) (r .raising) × Within (70000000 + up axle * 10000) (r .lowering) ⌝ }
 {
     Effects {
-        raising: effect::hn(raising),
-        lowering: effect::hn(lowering),
-    }
-}
-
-// The HO line effects.
-fn ho_effects(raising: Sought, lowering: Sought) -> Effects
-    requires { ⌜ SoughtNear raising × SoughtNear lowering ⌝ }
-    ensures { λ r. ⌜ (r .raising ≡ raising .uniform +ℤ axle HO *ℤ raising .pair) × (r .lowering ≡ lowering .uniform +ℤ axle HO *ℤ lowering .pair) ⌝ }
-    ensures { λ r. ⌜ Within 102000000 (r .raising) × Within 102000000 (r .lowering) ⌝ }
-{
-    Effects {
-        raising: effect::ho(raising),
-        lowering: effect::ho(lowering),
+        raising: effect::effect(axle, raising),
+        lowering: effect::effect(axle, lowering),
     }
 }
 
@@ -126,8 +118,8 @@ fn values(job: &[u8], head: Header, raising: Sought, lowering: Sought) -> Traffi
     requires { ⌜ SoughtRight (decode (now job) .line) Sense.Raising raising × SoughtRight (decode (now job) .line) Sense.Lowering lowering ⌝ }
     ensures { λ r. ⌜ ValuesRight (decode (now (job .entry))) r ⌝ }
 {
-    let hn = hn_effects(raising, lowering);
-    let ho = ho_effects(raising, lowering);
+    let hn = effects(Hn::AXLE, raising, lowering);
+    let ho = effects(Ho::AXLE, raising, lowering);
     let n = count::lane_count(head.width);
     let g = head.spacing;
     let d = dynamic::factor(head.kind, head.value);

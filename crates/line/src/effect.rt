@@ -2,8 +2,6 @@
 use crate::pair;
 use crate::pair::Stand;
 use crate::pieces;
-use model::Hn;
-use model::Ho;
 use model::Position;
 ghost use mathlib.Core.Path.{_≡_};
 ghost use Prim.Native.Nat.{_+_, _*_, _/_, _≤_};
@@ -12,7 +10,6 @@ ghost use lib.Signed.{_≤ℤ_};
 ghost use Rattle.exact.specs.Parts.{up};
 ghost use Rattle.exact.specs.Bounds.{Within};
 ghost use Rattle.model.specs.Decode.{influenceLine};
-ghost use Rattle.model.specs.Line.{axle as axleOf, HN, HO};
 ghost use Rattle.line.specs.Fits.{LineFits};
 ghost use Rattle.line.specs.Sought.{SoughtNear, SensesRight};
 
@@ -62,27 +59,11 @@ pub fn seek(line: &[u8], h: usize, n: usize) -> Senses
     }
 }
 
-// The line effect under an axle load.
-fn effect(axle: i64, s: Sought) -> i64
+// The line effect of an element of a kind, by the kind's axle load.
+pub fn effect(axle: i64, s: Sought) -> i64
     requires { ⌜ SoughtNear s ⌝ }
     requires { ⌜ (pos 0 ≤ℤ axle) × Within 3200 axle ⌝ }
     ensures { λ r. ⌜ (r ≡ s .uniform +ℤ axle *ℤ s .pair) × Within (70000000 + up axle * 10000) r ⌝ }
 {
     s.uniform + axle * s.pair
-}
-
-// The line effect of an HN element.
-pub fn hn(s: Sought) -> i64
-    requires { ⌜ SoughtNear s ⌝ }
-    ensures { λ r. ⌜ (r ≡ s .uniform +ℤ axleOf HN *ℤ s .pair) × Within 86000000 r ⌝ }
-{
-    effect(Hn::AXLE, s)
-}
-
-// The line effect of an HO element.
-pub fn ho(s: Sought) -> i64
-    requires { ⌜ SoughtNear s ⌝ }
-    ensures { λ r. ⌜ (r ≡ s .uniform +ℤ axleOf HO *ℤ s .pair) × Within 102000000 r ⌝ }
-{
-    effect(Ho::AXLE, s)
 }

@@ -14,11 +14,11 @@ use borrow.Author.Needs.{needs}
 use Rattle.kernel.proofs.values.Statement.{statement}
 use Rattle.kernel.proofs.values.Tie as tie
 
-hn-effects-requires : tie.Need-hn-effects-requires
-hn-effects-requires c κs = search needs
+effects-requires : tie.Need-effects-requires
+effects-requires c κs = search needs
 
-ho-effects-requires : tie.Need-ho-effects-requires
-ho-effects-requires c κs = search needs
+effects-requires-2 : tie.Need-effects-requires-2
+effects-requires-2 c κs = search needs
 
 lane-count-requires : tie.Need-lane-count-requires
 lane-count-requires c κs = search needs
@@ -37,15 +37,15 @@ spans-requires c κs =
 normal-requires : tie.Need-normal-requires
 normal-requires c κs =
     let s = c .before .before .before .before .before .before .before in
-    let e = c .before .before .before .before .before .hn-effects in (
+    let e = c .before .before .before .before .before .effects in (
       traffic-fits (s .pre .0) (c .before .transverse .ensures) (c .spans .result) (c .before .before .before .lane-count .ensures) (c .before .before .factor .ensures) (c .spans .ensures .1 .0),
       effects-fit (decode (s .args .job .now)) HN (s .args .raising) (s .args .lowering) (s .pre .1 .0) (s .pre .1 .1) (e .result) (e .ensures .0) (e .ensures .1),
     )
 
-ho-fit : (c : tie.After-spans) → EffectsFit 102000000 (c .before .before .before .before .ho-effects .result)
+ho-fit : (c : tie.After-spans) → EffectsFit 102000000 (c .before .before .before .before .effects2 .result)
 ho-fit c =
     let s = c .before .before .before .before .before .before .before in
-    let e = c .before .before .before .before .ho-effects in
+    let e = c .before .before .before .before .effects2 in
     effects-fit (decode (s .args .job .now)) HO (s .args .raising) (s .args .lowering) (s .pre .1 .0) (s .pre .1 .1) (e .result) (e .ensures .0) (e .ensures .1)
 
 normal-requires-2 : tie.Need-normal-requires-2
@@ -63,8 +63,8 @@ returns c =
     let s = at .before .before .before .before .before .before .before in
     let job = decode (s .args .job .now) in
     let d = at .before .before .factor .result in
-    let hn = at .before .before .before .before .before .hn-effects in
-    let ho = at .before .before .before .before .ho-effects in
+    let hn = at .before .before .before .before .before .effects in
+    let ho = at .before .before .before .before .effects2 in
     let f : (q : Question) → d ≡ job .dynamic q = factor-is (s .pre .0) (at .before .transverse .ensures) (at .spans .result) (at .before .before .before .lane-count .ensures) (at .before .before .factor .ensures) (at .spans .ensures .1 .0) in
     let over : Spanned (job .deck) (at .spans .result) (at .before .before .before .lane-count .result) (s .args .head .spacing) =
     spanned (s .pre .0) (at .before .transverse .ensures) (at .spans .result) (at .before .before .before .lane-count .ensures) (at .before .before .factor .ensures) (at .spans .ensures .1 .0) in
@@ -93,8 +93,8 @@ pub values-spec : {M : Type 1} → statement M
 values-spec =
     tie.close
     (tie.spec
-    hn-effects-requires
-    ho-effects-requires
+    effects-requires
+    effects-requires-2
     lane-count-requires
     factor-requires
     transverse-requires
