@@ -32,7 +32,7 @@ fn is_defective(records: &[u8], first: usize, count: usize, defect: Defect) -> b
 }
 
 // The first word of the first row whose chain has it.
-pub fn first_row(s: &[u8], head: Header, defect: Defect) -> Fault
+pub(crate) fn first_row(s: &[u8], head: Header, defect: Defect) -> Fault
     requires { ⌜ Sized (now s) head × (fault6 (now s) ≡ none) × (Repeats defect → fault7 (now s) ≡ none) ⌝ }
     ensures { λ r. ⌜ placeOf r ≡ firstDefective defect (now (s .entry)) ⌝ }
 {

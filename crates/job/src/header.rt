@@ -34,7 +34,7 @@ pub fn read(s: &[u8]) -> Header
 }
 
 // The M + 1 transverse ordinates.
-pub fn transverse_words(head: Header) -> usize
+pub(crate) fn transverse_words(head: Header) -> usize
     requires { ⌜ HeadFits head ⌝ }
     ensures { λ r. ⌜ (r ≡ transverseWordsBy head) × (r ≤ 209) ⌝ }
 {
@@ -43,28 +43,28 @@ pub fn transverse_words(head: Header) -> usize
     (w + g - 1) / g + 1
 }
 
-pub fn transverse_start(head: Header) -> usize
+pub(crate) fn transverse_start(head: Header) -> usize
     requires { ⌜ HeadFits head ⌝ }
     ensures { λ r. ⌜ (r ≡ transverseStartBy head) × (r ≤ 2010) ⌝ }
 {
     10 + 2 * head.pieces
 }
 
-pub fn effects_start(head: Header) -> usize
+pub(crate) fn effects_start(head: Header) -> usize
     requires { ⌜ HeadFits head ⌝ }
     ensures { λ r. ⌜ (r ≡ effectsStartBy head) × (r ≤ 2219) ⌝ }
 {
     transverse_start(head) + transverse_words(head)
 }
 
-pub fn rows_start(head: Header) -> usize
+pub(crate) fn rows_start(head: Header) -> usize
     requires { ⌜ HeadFits head ⌝ }
     ensures { λ r. ⌜ (r ≡ rowsStartBy head) × (r ≤ 2251) ⌝ }
 {
     effects_start(head) + 2 * head.effects
 }
 
-pub fn records_start(head: Header) -> usize
+pub(crate) fn records_start(head: Header) -> usize
     requires { ⌜ HeadFits head ⌝ }
     ensures { λ r. ⌜ (r ≡ recordsStartBy head) × (r ≤ 2379) ⌝ }
 {
@@ -72,7 +72,7 @@ pub fn records_start(head: Header) -> usize
 }
 
 // The word count that the header calls for.
-pub fn words_due(head: Header) -> usize
+pub(crate) fn words_due(head: Header) -> usize
     requires { ⌜ HeadFits head ⌝ }
     ensures { λ r. ⌜ (r ≡ wordsDueBy head) × (r ≤ 3915) ⌝ }
 {

@@ -150,7 +150,7 @@ fn record_fits(s: &[u8], start: usize, p: usize) -> bool
 }
 
 // The part's word at place p is within its limits.
-pub fn word_fits(s: &[u8], part: Part, start: usize, p: usize) -> bool
+fn word_fits(s: &[u8], part: Part, start: usize, p: usize) -> bool
     requires { ⌜ WordHeld (now s) part start p ⌝ }
     ensures { λ r. ⌜ r ≡ wordFits part (now (s .entry)) p ⌝ }
 {
@@ -165,7 +165,7 @@ pub fn word_fits(s: &[u8], part: Part, start: usize, p: usize) -> bool
 }
 
 // The first of a part's words that is not.
-pub fn misfit(s: &[u8], part: Part, start: usize, words: usize) -> Fault
+pub(crate) fn misfit(s: &[u8], part: Part, start: usize, words: usize) -> Fault
     requires { ⌜ PartHeld (now s) part start words ⌝ }
     ensures { λ r. ⌜ placeOf r ≡ firstMisfit part (now (s .entry)) ⌝ }
 {

@@ -24,7 +24,7 @@ pub struct Ruling {
 }
 
 // 1: under 10 words, a byte count not divisible by 4, or word 0 not 1.
-pub fn frame(s: &[u8]) -> Fault
+fn frame(s: &[u8]) -> Fault
     ensures { λ r. ⌜ placeOf r ≡ fault1 (now (s .entry)) ⌝ }
 {
     if s.len() < 40 {
@@ -40,7 +40,7 @@ pub fn frame(s: &[u8]) -> Fault
 }
 
 // 2: a word among 1 to 9 outside its limits.
-pub fn limits(s: &[u8]) -> Fault
+fn limits(s: &[u8]) -> Fault
     requires { ⌜ 40 ≤ length (now s) ⌝ }
     ensures { λ r. ⌜ placeOf r ≡ fault2 (now (s .entry)) ⌝ }
 {
@@ -48,7 +48,7 @@ pub fn limits(s: &[u8]) -> Fault
 }
 
 // 3: the word count isn't what the header calls for.
-pub fn count(s: &[u8], head: Header) -> Fault
+fn count(s: &[u8], head: Header) -> Fault
     requires { ⌜ (head ≡ headerOf (now s)) × HeadFits head ⌝ }
     ensures { λ r. ⌜ placeOf r ≡ fault3 (now (s .entry)) ⌝ }
 {
@@ -70,7 +70,7 @@ fn or_else(first: Fault, second: Fault) -> Fault
 }
 
 // 4: an ordinate of either line outside its limits.
-pub fn ordinates(s: &[u8], head: Header) -> Fault
+fn ordinates(s: &[u8], head: Header) -> Fault
     requires { ⌜ Sized (now s) head ⌝ }
     ensures { λ r. ⌜ placeOf r ≡ fault4 (now (s .entry)) ⌝ }
 {
@@ -98,7 +98,7 @@ fn crosses(x: i64, y: i64) -> bool
 }
 
 // 5: a piece with one ordinate above 0 and one below.
-pub fn crossing(s: &[u8], head: Header) -> Fault
+fn crossing(s: &[u8], head: Header) -> Fault
     requires { ⌜ Sized (now s) head ⌝ }
     ensures { λ r. ⌜ placeOf r ≡ fault5 (now (s .entry)) ⌝ }
 {
@@ -111,7 +111,7 @@ pub fn crossing(s: &[u8], head: Header) -> Fault
 }
 
 // 6: an effect, row or record word outside its limits.
-pub fn table(s: &[u8], head: Header) -> Fault
+fn table(s: &[u8], head: Header) -> Fault
     requires { ⌜ Sized (now s) head ⌝ }
     ensures { λ r. ⌜ placeOf r ≡ fault6 (now (s .entry)) ⌝ }
 {
@@ -132,7 +132,7 @@ pub fn table(s: &[u8], head: Header) -> Fault
 }
 
 // 7: a chain comes back to a record.
-pub fn returning(s: &[u8], head: Header) -> Fault
+fn returning(s: &[u8], head: Header) -> Fault
     requires { ⌜ Sized (now s) head × (fault6 (now s) ≡ none) ⌝ }
     ensures { λ r. ⌜ placeOf r ≡ fault7 (now (s .entry)) ⌝ }
 {
@@ -140,7 +140,7 @@ pub fn returning(s: &[u8], head: Header) -> Fault
 }
 
 // 8: a chain names an effect twice.
-pub fn repeating(s: &[u8], head: Header) -> Fault
+fn repeating(s: &[u8], head: Header) -> Fault
     requires { ⌜ Sized (now s) head × (fault6 (now s) ≡ none) × (fault7 (now s) ≡ none) ⌝ }
     ensures { λ r. ⌜ placeOf r ≡ fault8 (now (s .entry)) ⌝ }
 {
@@ -148,7 +148,7 @@ pub fn repeating(s: &[u8], head: Header) -> Fault
 }
 
 // 9: the patch buffer has fewer than N bytes.
-pub fn patch(head: Header, len: usize) -> Fault
+fn patch(head: Header, len: usize) -> Fault
     ensures { λ r. ⌜ placeOf r ≡ unless (leb (head .pieces) len) (head .pieces) ⌝ }
 {
     if len < head.pieces {

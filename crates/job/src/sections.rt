@@ -8,7 +8,7 @@ use crate::header;
 use crate::header::Header;
 
 // So many words of the job from a start on.
-pub fn section(s: &[u8], start: usize, words: usize) -> &[u8]
+fn section(s: &[u8], start: usize, words: usize) -> &[u8]
     requires { ⌜ 4 * (start + words) ≤ length (now s) ⌝ }
     ensures { λ r. ⌜ now r ≡ sectionOf (now (s .entry)) start words ⌝ }
 {

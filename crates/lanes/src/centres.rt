@@ -68,7 +68,7 @@ pub struct Span {
 }
 
 // Lane i's, of n lanes.
-pub fn lane_span(across: &[u8], width: usize, n: usize, g: usize, i: usize) -> Span
+fn lane_span(across: &[u8], width: usize, n: usize, g: usize, i: usize) -> Span
     requires { ⌜ AcrossFits (now across) width g ⌝ }
     requires { ⌜ n ≡ laneCount width ⌝ }
     requires { ⌜ i < n ⌝ }

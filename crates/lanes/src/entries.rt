@@ -39,7 +39,7 @@ fn worst_of(q: Question, span: Span) -> Centre
 }
 
 // Of a lane with this span, under these line effects.
-pub fn choose(q: Question, span: Span, raising: i64, lowering: i64) -> Chosen
+fn choose(q: Question, span: Span, raising: i64, lowering: i64) -> Chosen
     requires { ⌜ SpanNear span ⌝ }
     requires { ⌜ Within 102000000 raising × Within 102000000 lowering ⌝ }
     ensures { λ r. ⌜ ChosenRight q span raising lowering r ⌝ }
@@ -63,7 +63,7 @@ pub fn choose(q: Question, span: Span, raising: i64, lowering: i64) -> Chosen
 }
 
 // Of all lanes.
-pub fn choose_all(
+pub(crate) fn choose_all(
     q: Question,
     spans: [Span; 5],
     n: usize,

@@ -15,7 +15,7 @@ ghost use Rattle.lanes.specs.Sets.{valueOf, sumAt, SumsNear, SumsRight, 
 const POWERS: [u32; 6] = [1, 2, 4, 8, 16, 32];
 
 // Lane i's bit.
-pub fn has(set: u32, i: usize) -> bool
+pub(crate) fn has(set: u32, i: usize) -> bool
     requires { ⌜ i < 6 ⌝ }
     ensures { λ r. ⌜ r ≡ bit set i ⌝ }
 {
@@ -23,7 +23,7 @@ pub fn has(set: u32, i: usize) -> bool
 }
 
 // The set without lane i.
-pub fn without(i: usize, set: u32) -> u32
+fn without(i: usize, set: u32) -> u32
     requires { ⌜ i < 6 ⌝ }
     ensures { λ r. ⌜ (r ≡ withoutLane i set) × (r ≤ set) ⌝ }
 {
@@ -34,7 +34,7 @@ pub fn without(i: usize, set: u32) -> u32
 }
 
 // The set with lane i, which it lacks.
-pub fn with(i: usize, set: u32) -> u32
+pub(crate) fn with(i: usize, set: u32) -> u32
     requires { ⌜ (i < 6) × (set < 64) ⌝ }
     ensures { λ r. ⌜ r ≡ set + 2 ^ i ⌝ }
 {
@@ -42,7 +42,7 @@ pub fn with(i: usize, set: u32) -> u32
 }
 
 // r in twentieths: the ones of the set choose.
-pub fn reduction(set: u32) -> i64
+fn reduction(set: u32) -> i64
     ensures { λ r. ⌜ (r ≡ reductionOf (ones set)) × Within 20 r ⌝ }
 {
     let m = u32::count_ones(set);
@@ -83,7 +83,7 @@ fn set_sum(hn: [Chosen; 5], n: usize, set: u32) -> i64
 }
 
 // Of every set of n lanes.
-pub fn set_sums(hn: [Chosen; 5], n: usize) -> [i64; 32]
+pub(crate) fn set_sums(hn: [Chosen; 5], n: usize) -> [i64; 32]
     requires { ⌜ (0 < n) × (n ≤ 5) ⌝ }
     requires { ⌜ ((i : ℕ) → i < n → Within 21500000000000 (valueOf hn i)) ⌝ }
     ensures { λ r. ⌜ SumsRight n (valueOf hn) r ⌝ }
@@ -107,7 +107,7 @@ fn better_set(q: Question, sums: [i64; 32], a: u32, b: u32) -> u32
 }
 
 // The best set of lanes.
-pub fn best_normal(q: Question, sums: [i64; 32], n: usize) -> u32
+pub(crate) fn best_normal(q: Question, sums: [i64; 32], n: usize) -> u32
     requires { ⌜ n ≤ 5 ⌝ }
     ensures { λ r. ⌜ (r < 2 ^ n) × (sumAt sums r ≡ extreme q (2 ^ n - 1) (sumAt sums)) ⌝ }
 {
@@ -164,7 +164,7 @@ fn best_beside(q: Question, sums: [i64; 32], n: usize, ho: i64, lane: usize) -> 
 }
 
 // The best HO lane and set.
-pub fn best_overload(q: Question, sums: [i64; 32], n: usize, ho: [Chosen; 5]) -> Overload
+pub(crate) fn best_overload(q: Question, sums: [i64; 32], n: usize, ho: [Chosen; 5]) -> Overload
     requires { ⌜ (0 < n) × (n ≤ 5) ⌝ }
     requires { ⌜ SumsNear sums × ((i : ℕ) → i < n → Within 25500000000000 (valueOf ho i)) ⌝ }
     ensures { λ r. ⌜ OverloadRight q sums n (valueOf ho) r ⌝ }

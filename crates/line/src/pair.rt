@@ -14,7 +14,7 @@ ghost use Rattle.line.specs.Fits.{LineFits};
 ghost use Rattle.line.specs.Stands.{pairAt, betterSide, standFor, RangeRight};
 
 // The pair's axles are 50 dm apart: so many pieces.
-pub fn spacing(h: usize) -> usize
+pub(crate) fn spacing(h: usize) -> usize
     requires { ⌜ 1 ≤ h ⌝ }
     ensures { λ r. ⌜ (r ≡ 50 / h) × (r ≤ 50) ⌝ }
 {
@@ -144,7 +144,7 @@ fn at_station(line: &[u8], h: usize, n: usize, s: usize) -> Range
 }
 
 // The best over all stations and both sides.
-pub fn best(line: &[u8], h: usize, n: usize) -> Range
+pub(crate) fn best(line: &[u8], h: usize, n: usize) -> Range
     requires { ⌜ LineFits (now line) n ⌝ }
     requires { ⌜ 1 ≤ h ⌝ }
     ensures { λ r. ⌜ RangeRight (influenceLine (now (line .entry)) h n) (n + 50 / h) (λ q. extreme q (n + 50 / h) (betterSide q (influenceLine (now (line .entry)) h n))) r ⌝ }

@@ -61,7 +61,7 @@ pub struct Uniform {
 }
 
 // Of each sense's whole pieces.
-pub fn uniform_parts(line: &[u8], h: usize, n: usize) -> Uniform
+pub(crate) fn uniform_parts(line: &[u8], h: usize, n: usize) -> Uniform
     requires { ⌜ LineFits (now line) n ⌝ }
     requires { ⌜ (h ≤ 50) × (n * h ≤ 1000) ⌝ }
     ensures { λ r. ⌜ UniformRight (influenceLine (now (line .entry)) h n) r ⌝ }

@@ -56,7 +56,7 @@ pub struct Chained {
 }
 
 // Of the chain from record c, of at most so many records.
-pub fn best(q: Question, effects: &[u8], records: &[u8], c: usize, left: usize) -> Chained
+pub(crate) fn best(q: Question, effects: &[u8], records: &[u8], c: usize, left: usize) -> Chained
     requires { ⌜ EffectsFit (now effects) × RecordsFit (now effects) (now records) × (12 * c ≤ length (now records)) × (left ≤ 512) × Distinct (termsFrom (now records) left c) ⌝ }
     ensures { λ r. ⌜ ChainRight q (effectAt (now (effects .entry))) (termsFrom (now (records .entry)) left c) left r ⌝ }
 {
@@ -95,7 +95,7 @@ fn weight(out: bool, power: u32) -> u32
 }
 
 // The effects left out as a number, a bit an effect, effect 1 the lowest.
-pub fn omitted(out: [bool; 17]) -> u32
+pub(crate) fn omitted(out: [bool; 17]) -> u32
     requires { ⌜ flagged out 0 ≡ false ⌝ }
     ensures { λ r. ⌜ ((e : ℕ) → omits r e ≡ flagged out e) ⌝ }
 {
