@@ -78,7 +78,7 @@ pub struct Stand {
     pub side: Side,
 }
 
-// The better of two, the first at a tie.
+// The better of two, the first at a tie; taken field by field, so that the search copies no struct.
 fn choose(q: Question, a: Stand, b: Stand) -> Stand
     ensures { λ r. ⌜ r ≡ (if beatsFor q (b .value) (a .value) then b else a) ⌝ }
 {
