@@ -1,6 +1,6 @@
 //! Cases in one file, and in another what is due for each.
 
-use crate::generator::{self, Case};
+use crate::generator::{self, Case, Edition};
 use crate::report::report;
 use crate::solve::solve;
 
@@ -32,11 +32,11 @@ const SHORT_CASE_BYTES: usize = 400;
 /// Of the seeds of longer cases, one in so many is stored.
 const LONG_CASE_SEEDS: u64 = 32;
 
-/// The cases to store from a seed on: every short one and few of the others,
-/// so that many fit in a small file.
+/// Edition 1's cases to store from a seed on: every short one and few of the
+/// others, so that many fit in a small file.
 pub fn cases(first: u64) -> impl Iterator<Item = Case> {
     (first..=u64::MAX).filter_map(|seed| {
-        let case = generator::case(seed);
+        let case = generator::case(Edition::One, seed);
         let short = case.job.len() + case.patch.len() <= SHORT_CASE_BYTES;
         (short || seed.is_multiple_of(LONG_CASE_SEEDS)).then_some(case)
     })

@@ -6,7 +6,7 @@ mod common;
 use common::{level_job, pieces, two_lane_job};
 use second::account::{Lane, State};
 use second::checker::check;
-use second::generator::case;
+use second::generator::{case, Edition};
 use second::job::Job;
 use second::job_a::job_a;
 use second::{solve, Answer};
@@ -72,7 +72,7 @@ fn refuses(call: &Call, changes: &[(&str, Change)]) {
 #[test]
 fn right_answers_to_generated_cases_pass() {
     for seed in 0..2000 {
-        let case = case(seed);
+        let case = case(Edition::One, seed);
         let call = Call::new(&case.job, &case.patch);
         assert_eq!(call.check(), Ok(()), "seed {seed}");
     }
@@ -538,7 +538,7 @@ fn equally_good_omissions_are_free() {
 #[test]
 fn no_changed_value_or_row_passes() {
     for seed in 0..500 {
-        let case = case(seed);
+        let case = case(Edition::One, seed);
         let call = Call::new(&case.job, &case.patch);
         let changes: [Change; 10] = [
             |call| call.answer.account.normal_greatest.value -= 1,
