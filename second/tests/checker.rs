@@ -3,7 +3,7 @@
 
 mod common;
 
-use common::{level_job, pieces, two_lane_job};
+use common::{definition, level_job, pieces, two_lane_job};
 use second::account::{Lane, State};
 use second::checker::check;
 use second::generator::{case, Edition};
@@ -69,11 +69,14 @@ fn refuses(call: &Call, changes: &[(&str, Change)]) {
     }
 }
 
+/// What is due by the definitions alone passes, with the solver's placements
+/// and omissions.
 #[test]
 fn right_answers_to_generated_cases_pass() {
     for seed in 0..2000 {
         let case = case(Edition::One, seed);
-        let call = Call::new(&case.job, &case.patch);
+        let mut call = Call::new(&case.job, &case.patch);
+        (call.answer, call.after) = definition::due(&case.job, &case.patch, &call.answer);
         assert_eq!(call.check(), Ok(()), "seed {seed}");
     }
 }
