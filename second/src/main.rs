@@ -18,9 +18,8 @@ const USAGE: &str = "usage:
                                    write COUNT cases of EDITION's stream from
                                    SEED on into DIR, as SEED.job and SEED.patch;
                                    EDITION is 1
-  second store SEED COUNT DIR      write COUNT cases from SEED on, most of them
-                                   short, into DIR/jobs, and what is due for
-                                   each into DIR/expected
+  second store DIR                 write the cases to store into DIR/jobs, and
+                                   what is due for each into DIR/expected
 ";
 
 /// The most bytes of standard input that are read.
@@ -72,10 +71,7 @@ fn run(arguments: &[&str]) -> Result<(), Failure> {
             let edition = Edition::of_number(number(edition)?).ok_or(Failure::Usage)?;
             generate(edition, number(seed)?, number(count)?, Path::new(directory))
         }
-        ["store", seed, count, directory] => {
-            let count = usize::try_from(number(count)?).map_err(|_| Failure::Usage)?;
-            store(number(seed)?, count, Path::new(directory))
-        }
+        ["store", directory] => store(Path::new(directory)),
         _ => Err(Failure::Usage),
     }
 }
@@ -108,8 +104,8 @@ fn generate(edition: Edition, first: u64, count: u64, directory: &Path) -> Resul
     Ok(())
 }
 
-fn store(first: u64, count: usize, directory: &Path) -> Result<(), Failure> {
-    let stored = store::stored(first, count).ok_or(Failure::Usage)?;
+fn store(directory: &Path) -> Result<(), Failure> {
+    let stored = store::stored();
     write_file(&directory.join("jobs"), &stored.jobs)?;
     write_file(&directory.join("expected"), stored.expected.as_bytes())
 }

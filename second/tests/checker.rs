@@ -9,7 +9,7 @@ use second::checker::check;
 use second::generator::{case, Edition};
 use second::job::Job;
 use second::job_a::job_a;
-use second::{solve, Answer};
+use second::{chosen, solve, Answer};
 
 /// What a kernel gave for a job, with the patch buffer before and after.
 #[derive(Clone)]
@@ -70,14 +70,14 @@ fn refuses(call: &Call, changes: &[(&str, Change)]) {
 }
 
 /// What is due by the definitions alone passes, with the solver's placements
-/// and omissions.
+/// and omissions: for generated cases by seed, then for the chosen ones.
 #[test]
-fn right_answers_to_generated_cases_pass() {
-    for seed in 0..2000 {
-        let case = case(Edition::One, seed);
+fn right_answers_to_generated_and_chosen_cases_pass() {
+    let generated = (0..2000).map(|seed| case(Edition::One, seed));
+    for (number, case) in generated.chain(chosen::cases()).enumerate() {
         let mut call = Call::new(&case.job, &case.patch);
         (call.answer, call.after) = definition::due(&case.job, &case.patch, &call.answer);
-        assert_eq!(call.check(), Ok(()), "seed {seed}");
+        assert_eq!(call.check(), Ok(()), "case {number}");
     }
 }
 

@@ -445,13 +445,10 @@ fn the_cases_reach_every_refusal_and_shape() {
     assert!(missed.is_empty(), "never reached: {missed:?}");
 }
 
-/// The count that tests/stored.sh of the kernel stores from seed 0 on.
-const STORED_CASES: usize = 1700;
-
 #[test]
 fn the_stored_cases_reach_every_refusal_and_shape() {
     let mut reached = BTreeSet::new();
-    for case in second::store::cases(0).take(STORED_CASES) {
+    for case in second::store::generated_cases() {
         let answer = solve(&case.job, &mut case.patch.clone());
         reached.extend(labels(&case, &answer));
     }
