@@ -98,7 +98,7 @@ fn section_lengths(header: &[i64]) -> [usize; 5] {
 
 /// The lowest refusal with its lowest place.
 fn refusal(bytes: usize, words: &[i64], patch_bytes: usize) -> Option<(u64, usize)> {
-    if words.len() < 10 || bytes % 4 != 0 || words[0] != 1 {
+    if words.len() < 10 || !bytes.is_multiple_of(4) || words[0] != 1 {
         return Some((1, 0));
     }
     let header_place = (1..10).find(|&place| !header_word_is_lawful(words, place));
