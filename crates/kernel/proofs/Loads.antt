@@ -1,11 +1,15 @@
 -- What the traffic values ask of an accepted job, and what they give it.
 use mathlib.Core.Path.{_≡_, refl, sym, _∙_, ap₂, subst}
 use mathlib.Core.List.{List}
-use Prim.Native.Nat.{ℕ, _≤_, _<_}
-use lib.IntN.{ℤ, pos, _+ℤ_, _*ℤ_}
+use Prim.Native.Nat.{ℕ, _+_, _*_, _≤_, _<_}
+use lib.Dec.{lit<}
+use lib.IntN.{ℤ, pos}
 use lib.Signed.{_≤ℤ_}
 use lib.ListN.{getD}
-use Rattle.exact.specs.Bounds.{Within}
+use mir.Syntax.{w64}
+use mir.Val.{toZ, ofZ}
+use Rattle.exact.specs.Parts.{up}
+use Rattle.exact.proofs.Held.{Room, known, told}
 use Rattle.exact.specs.declared.Question.{Question}
 use Rattle.model.specs.Job.{Job, normal, overload}
 use Rattle.model.specs.Decode.{decode, carriageway}
@@ -17,9 +21,8 @@ use Rattle.model.specs.declared.Sense.the-variants.{Raising, Lowering}
 use Rattle.model.specs.declared.Extreme.{Extreme}
 use Rattle.model.proofs.Signs.{line-zero}
 use Rattle.job.specs.declared.header.Header.{Header}
-use Rattle.line.specs.Sought.{SoughtRight}
+use Rattle.line.specs.Sought.{SoughtRight, EffectRight}
 use Rattle.line.specs.declared.effect.Sought.{Sought}
-use Rattle.line.proofs.Results.{sought-effect}
 use Rattle.lanes.specs.Spans.{SpanRight, noSpan}
 use Rattle.lanes.specs.Traffic.{TrafficFits, EffectsFit, Spanned, NormalPlaced, OverloadPlaced}
 use Rattle.lanes.specs.declared.centres.Span.{Span}
@@ -28,24 +31,33 @@ use Rattle.kernel.specs.Parts.{Ready, effectsOf, TrafficPlaced}
 use Rattle.kernel.proofs.Fits.{across-fits, dynamic}
 use Rattle.kernel.proofs.Placed.{normal-placed, overload-placed}
 
--- the line effects of what is sought
-module _ (job : Job) (kind : Kind) (raising lowering : Sought) (up : SoughtRight (job .line) Raising raising) (down : SoughtRight (job .line) Lowering lowering) (e : Effects)
-    (is : (e .raising ≡ raising .uniform +ℤ axle kind *ℤ raising .pair) × (e .lowering ≡ lowering .uniform +ℤ axle kind *ℤ lowering .pair)) where
-  raised : e .raising ≡ lineEffect (job .line) kind Raising
-  raised = is .0 ∙ sought-effect up kind
+-- a kind's line effects go into 64 bits
+room : (kind : Kind) → Room w64 (70000000 + up (axle kind) * 10000)
+room HN = lit< tt
+room HO = lit< tt
 
-  lowered : e .lowering ≡ lineEffect (job .line) kind Lowering
-  lowered = is .1 ∙ sought-effect down kind
+-- two line effects as a struct hands them on
+abbrev pub handed : (raising lowering : ℤ) → Effects
+handed x y = record { raising = toZ w64 (ofZ w64 x); lowering = toZ w64 (ofZ w64 y) }
 
-  pub effects-are : e ≡ effectsOf job kind
+-- a kind's line effects by what is sought
+module _ (job : Job) (kind : Kind) {raising lowering : Sought} (above : SoughtRight (job .line) Raising raising) (below : SoughtRight (job .line) Lowering lowering)
+    {x y : ℤ} (a : EffectRight kind raising x) (b : EffectRight kind lowering y) where
+  raised : toZ w64 (ofZ w64 x) ≡ lineEffect (job .line) kind Raising
+  raised = known w64 (a .near) (room kind) .is ∙ a .is (job .line) Raising above
+
+  lowered : toZ w64 (ofZ w64 y) ≡ lineEffect (job .line) kind Lowering
+  lowered = known w64 (b .near) (room kind) .is ∙ b .is (job .line) Lowering below
+
+  pub effects-are : handed x y ≡ effectsOf job kind
   effects-are = ap₂ (λ (x y : ℤ). record { raising = x; lowering = y }) raised lowered
 
-  pub effects-fit : {m : ℕ} → Within m (e .raising) × Within m (e .lowering) → EffectsFit m e
-  effects-fit near = record {
+  pub effects-fit : EffectsFit (70000000 + up (axle kind) * 10000) (handed x y)
+  effects-fit = record {
     up = subst (λ (z : ℤ). pos 0 ≤ℤ z) (sym raised) (line-zero (job .line) kind Raising);
     down = subst (λ (z : ℤ). z ≤ℤ pos 0) (sym lowered) (line-zero (job .line) kind Lowering);
-    raising = near .0;
-    lowering = near .1;
+    raising = told (known w64 (a .near) (room kind)) .1;
+    lowering = told (known w64 (b .near) (room kind)) .1;
   }
 
 -- the spans as they were found

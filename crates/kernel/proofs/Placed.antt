@@ -8,13 +8,14 @@ use Rattle.model.specs.Line.{Kind, HN, HO}
 use Rattle.model.specs.Traffic.{lanes, laneEffect, bestSum, trafficValue}
 use Rattle.model.specs.Arrangements.{OverloadLanes}
 use Rattle.model.specs.Answered.{laneAt}
+use Rattle.model.specs.Placements.{BestCentre, EntryRight, placedLanes, placedSum}
 use Rattle.model.specs.declared.Sense.{Sense}
 use Rattle.model.specs.declared.Sense.the-variants.{Raising, Lowering}
 use Rattle.model.specs.declared.Entry.{Entry}
 use Rattle.model.specs.declared.Entry.the-variants.{Unloaded, Hn, Ho}
 use Rattle.model.specs.declared.Lane.{Lane}
 use Rattle.model.specs.declared.Extreme.{Extreme}
-use Rattle.model.proofs.Attained.{BestCentre, EntryRight, placedLanes, placedSum, placed-normal, placed-overload}
+use Rattle.model.proofs.Attained.{placed-normal, placed-overload}
 use Rattle.lanes.specs.Traffic.{BestElement, EntryBest, PlacedRight, NormalPlaced, OverloadPlaced}
 use Rattle.kernel.specs.Parts.{effectsOf, TrafficPlaced}
 

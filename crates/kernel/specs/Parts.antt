@@ -12,13 +12,13 @@ use Rattle.model.specs.Refusals.{verdict}
 use Rattle.model.specs.Traffic.{lanes, bestSum, trafficValue}
 use Rattle.model.specs.Arrangements.{OverloadLanes}
 use Rattle.model.specs.Answered.{laneAt, setOf, extremeOf, PositionRight}
+use Rattle.model.specs.Placements.{EntryRight, placedLanes, placedSum}
 use Rattle.model.specs.declared.Sense.the-variants.{Raising, Lowering}
 use Rattle.model.specs.declared.Entry.the-variants.{Unloaded}
 use Rattle.model.specs.declared.Extreme.{Extreme}
 use Rattle.model.specs.declared.Traffic.{Traffic}
 use Rattle.model.specs.declared.State.{State}
 use Rattle.model.specs.declared.Account.{Account}
-use Rattle.model.proofs.Attained.{EntryRight, placedLanes, placedSum}
 use Rattle.job.specs.Header.{headerOf}
 use Rattle.job.specs.declared.header.Header.{Header}
 use Rattle.lanes.specs.declared.traffic.Effects.{Effects}

@@ -12,13 +12,13 @@ use lanes::traffic::Effects;
 use line::effect;
 use line::effect::Senses;
 use line::effect::Sought;
+use line::kinds::Hn;
+use line::kinds::Ho;
 use line::pieces;
 use model::Account;
 use model::Answer;
 use model::Entry;
 use model::Extreme;
-use model::Hn;
-use model::Ho;
 use model::Lane;
 use model::Placement;
 use model::Position;
@@ -29,14 +29,10 @@ use model::Traffic;
 use rows::state;
 use rows::state::Live;
 ghost use mathlib.Core.Path.{_≡_};
-ghost use Prim.Native.Nat.{_+_, _*_, _≤_};
-ghost use lib.IntN.{pos, _+ℤ_, _*ℤ_};
-ghost use lib.Signed.{_≤ℤ_};
-ghost use Rattle.exact.specs.Parts.{up};
-ghost use Rattle.exact.specs.Bounds.{Within};
+ghost use Prim.Native.Nat.{_≤_};
 ghost use Rattle.model.specs.Decode.{decode, limitOf};
 ghost use Rattle.model.specs.Answered.{zeroTraffic, refusalAnswer, Answered};
-ghost use Rattle.line.specs.Sought.{SoughtNear, SoughtRight, SensesRight};
+ghost use Rattle.line.specs.Sought.{SoughtRight, SensesRight};
 ghost use Rattle.rows.specs.Governed.{trafficOf, LiveFits, StateFound};
 ghost use Rattle.kernel.specs.Parts.{Ready, ValuesRight, PartsRight};
 
@@ -94,19 +90,6 @@ fn sought(job: &[u8], head: Header) -> Senses
     effect::seek(sections::line(job, head), head.h, head.pieces)
 }
 
-// A kind's line effects, by its axle load.
-fn effects(axle: i64, raising: Sought, lowering: Sought) -> Effects
-    requires { ⌜ (pos 0 ≤ℤ axle) × Within 3200 axle ⌝ }
-    requires { ⌜ SoughtNear raising × SoughtNear lowering ⌝ }
-    ensures { λ r. ⌜ (r .raising ≡ raising .uniform +ℤ axle *ℤ raising .pair) × (r .lowering ≡ lowering .uniform +ℤ axle *ℤ lowering .pair) ⌝ }
-    ensures { λ r. ⌜ Within (70000000 + up axle * 10000) (r .raising) × Within (70000000 + up axle * 10000) (r .lowering) ⌝ }
-{
-    Effects {
-        raising: effect::effect(axle, raising),
-        lowering: effect::effect(axle, lowering),
-    }
-}
-
 // The traffic values of both live kinds, and the number of lanes.
 pub struct TrafficValues {
     pub normal: Traffic,
@@ -120,8 +103,14 @@ fn values(job: &[u8], head: Header, raising: Sought, lowering: Sought) -> Traffi
     requires { ⌜ SoughtRight (decode (now job) .line) Sense.Raising raising × SoughtRight (decode (now job) .line) Sense.Lowering lowering ⌝ }
     ensures { λ r. ⌜ ValuesRight (decode (now (job .entry))) r ⌝ }
 {
-    let hn = effects(Hn::AXLE, raising, lowering);
-    let ho = effects(Ho::AXLE, raising, lowering);
+    let hn = Effects {
+        raising: Hn::effect(raising),
+        lowering: Hn::effect(lowering),
+    };
+    let ho = Effects {
+        raising: Ho::effect(raising),
+        lowering: Ho::effect(lowering),
+    };
     let n = count::lane_count(head.width);
     let g = head.spacing;
     let d = dynamic::factor(head.kind, head.value);

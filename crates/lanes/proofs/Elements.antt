@@ -3,7 +3,7 @@ use mathlib.Core.Path.{_≡_, sym, _∙_, ap, ap₂, subst}
 use Prim.Native.Nat.{ℕ, _*_, _≤_}
 use lib.IntN.{ℤ, _*ℤ_}
 use Rattle.exact.specs.Bounds.{Within}
-use Rattle.exact.specs.Questions.{better}
+use Rattle.exact.specs.Questions.{better, other}
 use Rattle.exact.specs.declared.Question.{Question}
 use Rattle.exact.specs.declared.Question.the-variants.{Greatest, Least}
 use Rattle.exact.proofs.Bounds.{within-mul}
@@ -12,7 +12,7 @@ use Rattle.model.specs.Job.{Carriageway}
 use Rattle.model.specs.Lanes.{lanesOf, lowest, highest, transverseAt}
 use Rattle.model.specs.declared.Sense.{Sense}
 use Rattle.model.specs.declared.Sense.the-variants.{Raising, Lowering}
-use Rattle.model.proofs.Centre.{other, bestInLane-split}
+use Rattle.model.proofs.Centre.{bestInLane-split}
 use Rattle.lanes.specs.Spans.{CentreRight, SpanRight}
 use Rattle.lanes.specs.Entries.{bestOf, centreFor, effectFor, SpanNear, ChosenRight}
 use Rattle.lanes.specs.Traffic.{EffectsFit, laneBest, BestElement}

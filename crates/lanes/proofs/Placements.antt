@@ -17,9 +17,9 @@ use Rattle.model.specs.Job.{Carriageway}
 use Rattle.model.specs.Line.{HN, HO}
 use Rattle.model.specs.Lanes.{lanesOf, bit}
 use Rattle.model.specs.Answered.{entryBit, setOf}
+use Rattle.model.specs.Placements.{entryIs}
 use Rattle.model.specs.declared.Lane.{Lane}
 use Rattle.model.proofs.Sets.{setNumber, set-number}
-use Rattle.model.proofs.Attained.{entryIs}
 use Rattle.lanes.specs.Entries.{noElement}
 use Rattle.lanes.specs.Traffic.{laneBy, LanesPlaced, BestElement, EntryBest, PlacedRight}
 use Rattle.lanes.specs.declared.entries.Chosen.{Chosen}

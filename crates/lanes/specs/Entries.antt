@@ -5,12 +5,11 @@ use Prim.Native.Nat.{ℕ, _≤_, _<_}
 use lib.IntN.{ℤ, pos, _*ℤ_}
 use lib.ListN.{getD}
 use Rattle.exact.specs.Bounds.{Within}
-use Rattle.exact.specs.Questions.{better}
+use Rattle.exact.specs.Questions.{better, other}
 use Rattle.exact.specs.declared.Question.{Question}
 use Rattle.exact.specs.declared.Question.the-variants.{Greatest, Least}
 use Rattle.model.specs.declared.Sense.{Sense}
 use Rattle.model.specs.declared.Sense.the-variants.{Raising, Lowering}
-use Rattle.model.proofs.Centre.{other}
 use Rattle.lanes.specs.Spans.{noSpan}
 use Rattle.lanes.specs.declared.centres.Centre.{Centre}
 use Rattle.lanes.specs.declared.centres.Span.{Span}

@@ -15,13 +15,13 @@ use Rattle.model.specs.Line.{HN, HO}
 use Rattle.model.specs.Lanes.{lanesOf, lowest, highest, transverseUnit, transverseAt, bit}
 use Rattle.model.specs.Traffic.{bestInLane, setSum, bestNormal, bestOverload, effectOf}
 use Rattle.model.specs.Answered.{emptyLane, laneAt, setOf}
+use Rattle.model.specs.Placements.{entryIs}
 use Rattle.model.specs.declared.Sense.{Sense}
 use Rattle.model.specs.declared.Entry.{Entry}
 use Rattle.model.specs.declared.Entry.the-variants.{Unloaded, Hn, Ho}
 use Rattle.model.specs.declared.Lane.{Lane}
 use Rattle.model.specs.declared.Placement.{Placement}
 use Rattle.model.specs.declared.Extreme.{Extreme}
-use Rattle.model.proofs.Attained.{entryIs}
 use Rattle.lanes.specs.Spans.{SpanRight, noSpan}
 use Rattle.lanes.specs.Entries.{noElement, effectFor, SpanNear}
 use Rattle.lanes.specs.declared.centres.Span.{Span}

@@ -7,7 +7,7 @@ ghost use mathlib.Core.Path.{_≡_};
 ghost use Prim.Native.Nat.{ℕ, _≤_, _<_};
 ghost use lib.ListN.{getD};
 ghost use Rattle.exact.specs.Bounds.{Within};
-ghost use Rattle.model.proofs.Centre.{other};
+ghost use Rattle.exact.specs.Questions.{other};
 ghost use Rattle.lanes.specs.Spans.{noSpan};
 ghost use Rattle.lanes.specs.Entries.{bestOf, SpanNear, ChosenRight, AllChosen};
 

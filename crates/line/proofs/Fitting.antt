@@ -7,6 +7,6 @@ use Rattle.line.specs.Fits.{PieceFits, LineFits}
 pub fits-piece : {s : List ℕ} {n : ℕ} → LineFits s n → (i : ℕ) → i < n → PieceFits s i
 fits-piece f i h = record { room = omega (arith, f .room); left = f .near (2 * i) (omega arith); right = f .near (2 * i + 1) (omega arith) }
 
--- N times h is at most 1000, so 7 h times the sum of N pieces is at most 70000000
-pub uniform-room : (h n : ℕ) → n * h ≤ 1000 → (7 * h) * (10000 * n) ≤ 70000000
-uniform-room h n l = omega arith
+-- N times h is at most 1000, so h times the sum of N pieces is at most 10000000
+pub area-room : (h n : ℕ) → n * h ≤ 1000 → h * (10000 * n) ≤ 10000000
+area-room h n l = omega arith

@@ -1,33 +1,40 @@
--- What is sought of a line for each sense.
-use lib.IntN.{ℤ}
+-- What is sought of a line for each sense, and the line effects of the kinds by it.
+use Prim.Native.Nat.{_+_, _*_}
 use mathlib.Core.Path.{_≡_}
+use lib.IntN.{ℤ, pos, _*ℤ_}
 use Rattle.exact.specs.Bounds.{Within}
+use Rattle.exact.specs.Parts.{up}
+use Rattle.exact.specs.Ranges.{sumTo}
 use Rattle.model.specs.Job.{InfluenceLine}
-use Rattle.model.specs.Line.{uniformPart, bestPair}
+use Rattle.model.specs.Line.{Kind, axle, loadedSum, bestPair, lineEffect}
 use Rattle.model.specs.Answered.{PositionRight}
 use Rattle.model.specs.declared.Sense.{Sense}
 use Rattle.model.specs.declared.Sense.the-variants.{Raising, Lowering}
-use Rattle.line.specs.declared.pieces.Uniform.{Uniform}
+use Rattle.line.specs.declared.pieces.Areas.{Areas}
 use Rattle.line.specs.declared.effect.Sought.{Sought}
 use Rattle.line.specs.declared.effect.Senses.{Senses}
 
--- a sense's uniform load
-abbrev pub uniformFor : Sense → Uniform → ℤ
-uniformFor Raising u = u .raising
-uniformFor Lowering u = u .lowering
+-- twice the line's area over a sense's whole pieces, in dm·U: h times (a + b) each
+unfoldable pub doubleArea : InfluenceLine → Sense → ℤ
+doubleArea line sense = pos (line .h) *ℤ sumTo (line .pieces) (λ i. loadedSum sense (line .piece i))
 
--- each sense's uniform load is the definition's
-abbrev pub UniformRight : InfluenceLine → Uniform → Type 0
-UniformRight line u = (sense : Sense) → (uniformFor sense u ≡ uniformPart line sense) × Within 70000000 (uniformFor sense u)
+-- a sense's area
+abbrev pub areaFor : Sense → Areas → ℤ
+areaFor Raising a = a .raising
+areaFor Lowering a = a .lowering
+
+-- each sense's area is the definition's
+abbrev pub AreasRight : InfluenceLine → Areas → Type 0
+AreasRight line a = (sense : Sense) → (areaFor sense a ≡ doubleArea line sense) × Within 10000000 (areaFor sense a)
 
 -- its numbers go on into arithmetic
 pub record SoughtNear (s : Sought) : Type 0 where
-  pub uniform : Within 70000000 (s .uniform)
+  pub area : Within 10000000 (s .area)
   pub pair : Within 10000 (s .pair)
 
--- the sense's uniform load and best pair, with a position that gives it
+-- the sense's area and best pair, with a position that gives it
 pub record SoughtRight (line : InfluenceLine) (sense : Sense) (s : Sought) : Type 0 where
-  pub uniform : s .uniform ≡ uniformPart line sense
+  pub area : s .area ≡ doubleArea line sense
   pub pair : s .pair ≡ bestPair line sense
   pub position : PositionRight line sense (s .position)
   pub near : SoughtNear s
@@ -40,3 +47,8 @@ soughtFor Lowering s = s .lowering
 -- both senses' is right
 abbrev pub SensesRight : InfluenceLine → Senses → Type 0
 SensesRight line s = (sense : Sense) → SoughtRight line sense (soughtFor sense s)
+
+-- a kind's line effect, in 75 N·U, on every line of which that is sought; near enough to go on
+pub record EffectRight (kind : Kind) (s : Sought) (r : ℤ) : Type 0 where
+  pub is : (line : InfluenceLine) (sense : Sense) → SoughtRight line sense s → r ≡ lineEffect line kind sense
+  pub near : Within (70000000 + up (axle kind) * 10000) r

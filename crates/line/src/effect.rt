@@ -1,4 +1,4 @@
-// The raising and lowering line effects of both kinds, with the positions that give them.
+// What each sense seeks of the line, and the line effect of an element by it.
 use crate::pair;
 use crate::pair::Stand;
 use crate::pieces;
@@ -13,17 +13,17 @@ ghost use Rattle.model.specs.Decode.{influenceLine};
 ghost use Rattle.line.specs.Fits.{LineFits};
 ghost use Rattle.line.specs.Sought.{SoughtNear, SensesRight};
 
-// A sense's uniform load and best pair.
+// Of a sense: twice the line's area over the pieces that it loads, in dm·U; its best pair of ordinates, and the pair's position.
 pub struct Sought {
-    pub uniform: i64,
+    pub area: i64,
     pub pair: i64,
     pub position: Position,
 }
 
-// By a uniform load and the stand of the pair.
-fn sought_at(uniform: i64, stand: Stand, h: usize) -> Sought
+// By the area and the stand of the pair.
+fn sought_at(area: i64, stand: Stand, h: usize) -> Sought
     requires { ⌜ (1 ≤ h) × (stand .station ≤ 1050) ⌝ }
-    ensures { λ r. ⌜ r ≡ record { uniform = uniform; pair = stand .value; position = record { station = pos (stand .station) -ℤ pos (50 / h); side = stand .side } } ⌝ }
+    ensures { λ r. ⌜ r ≡ record { area = area; pair = stand .value; position = record { station = pos (stand .station) -ℤ pos (50 / h); side = stand .side } } ⌝ }
 {
     let side = stand.side;
     let position = Position {
@@ -31,7 +31,7 @@ fn sought_at(uniform: i64, stand: Stand, h: usize) -> Sought
         side,
     };
     Sought {
-        uniform,
+        area,
         pair: stand.value,
         position,
     }
@@ -49,21 +49,21 @@ pub fn seek(line: &[u8], h: usize, n: usize) -> Senses
     requires { ⌜ (1 ≤ h) × ((h ≤ 50) × (n * h ≤ 1000)) ⌝ }
     ensures { λ r. ⌜ SensesRight (influenceLine (now (line .entry)) h n) r ⌝ }
 {
-    let uniform = pieces::uniform_parts(line, h, n);
+    let areas = pieces::double_areas(line, h, n);
     let range = pair::best(line, h, n);
     let greatest = range.greatest;
     let least = range.least;
     Senses {
-        raising: sought_at(uniform.raising, greatest, h),
-        lowering: sought_at(uniform.lowering, least, h),
+        raising: sought_at(areas.raising, greatest, h),
+        lowering: sought_at(areas.lowering, least, h),
     }
 }
 
-// The line effect of an element of a kind, by the kind's axle load.
-pub fn effect(axle: i64, s: Sought) -> i64
+// The line effect of an element with these loads.
+pub(crate) fn effect(uniform: i64, axle: i64, s: Sought) -> i64
     requires { ⌜ SoughtNear s ⌝ }
-    requires { ⌜ (pos 0 ≤ℤ axle) × Within 3200 axle ⌝ }
-    ensures { λ r. ⌜ (r ≡ s .uniform +ℤ axle *ℤ s .pair) × Within (70000000 + up axle * 10000) r ⌝ }
+    requires { ⌜ ((pos 0 ≤ℤ uniform) × Within 100 uniform) × ((pos 0 ≤ℤ axle) × Within 10000 axle) ⌝ }
+    ensures { λ r. ⌜ (r ≡ uniform *ℤ s .area +ℤ axle *ℤ s .pair) × Within (up uniform * 10000000 + up axle * 10000) r ⌝ }
 {
-    s.uniform + axle * s.pair
+    uniform * s.area + axle * s.pair
 }

@@ -1,4 +1,5 @@
-// The influence line: uniform load on whole pieces, patch bytes, the axle pair's best position, line effects.
+// The influence line: loaded pieces, patch bytes, the axle pair's best position, line effects of the element kinds.
 pub mod effect;
+pub mod kinds;
 pub mod pair;
 pub mod pieces;

@@ -1,4 +1,4 @@
-// Whole pieces: their ordinate sums, patch bytes and uniform load.
+// Whole pieces: their ordinate sums, patch bytes and areas.
 use model::Sense;
 ghost use mathlib.Core.Path.{_≡_};
 ghost use mathlib.Core.List.{_++_};
@@ -8,7 +8,7 @@ ghost use Rattle.exact.specs.Bounds.{Within};
 ghost use Rattle.model.specs.Decode.{pieceAt, influenceLine};
 ghost use Rattle.model.specs.Line.{endSum, patchByte, patchBytes, loadedByte, loadedSum};
 ghost use Rattle.line.specs.Fits.{PieceFits, LineFits};
-ghost use Rattle.line.specs.Sought.{UniformRight};
+ghost use Rattle.line.specs.Sought.{AreasRight};
 
 // Piece i's ordinate sum a + b.
 fn end_sum(line: &[u8], i: usize) -> i64
@@ -54,17 +54,17 @@ fn loaded_sum(line: &[u8], i: usize, sense: Sense) -> i64
     0
 }
 
-// The uniform load of each sense, in 75 N·U.
-pub struct Uniform {
+// Of each sense, twice the line's area over the pieces that it loads, in dm·U.
+pub struct Areas {
     pub raising: i64,
     pub lowering: i64,
 }
 
-// Of each sense's whole pieces.
-pub(crate) fn uniform_parts(line: &[u8], h: usize, n: usize) -> Uniform
+// Over n pieces of h dm.
+pub(crate) fn double_areas(line: &[u8], h: usize, n: usize) -> Areas
     requires { ⌜ LineFits (now line) n ⌝ }
     requires { ⌜ (h ≤ 50) × (n * h ≤ 1000) ⌝ }
-    ensures { λ r. ⌜ UniformRight (influenceLine (now (line .entry)) h n) r ⌝ }
+    ensures { λ r. ⌜ AreasRight (influenceLine (now (line .entry)) h n) r ⌝ }
 {
     let mut raising: i64 = 0;
     let mut lowering: i64 = 0;
@@ -72,10 +72,10 @@ pub(crate) fn uniform_parts(line: &[u8], h: usize, n: usize) -> Uniform
         raising += loaded_sum(line, i, Sense::Raising);
         lowering += loaded_sum(line, i, Sense::Lowering);
     }
-    let unit = model::UNIFORM * (h as i64);
-    Uniform {
-        raising: unit * raising,
-        lowering: unit * lowering,
+    let length = h as i64;
+    Areas {
+        raising: length * raising,
+        lowering: length * lowering,
     }
 }
 

@@ -13,18 +13,19 @@ use lib.ListN.{getD, List·getD-append}
 use borrow.Author.Tests.{eq-eqb, ne-eqb}
 use Rattle.exact.specs.Choice.{if_then_else_}
 use Rattle.exact.specs.Questions.{rounded}
-use Rattle.exact.specs.Ranges.{sumTo, countTo}
+use Rattle.exact.specs.Ranges.{countTo}
 use Rattle.exact.specs.declared.Question.{Question}
 use Rattle.exact.proofs.Exact.{_⊕_, _⊗_, lit, _≐_, solve}
 use Rattle.exact.proofs.Ranges.{sum-cong, sum-scale, sum-zero, sum-one, count-cong, length-listOf, getD-listOf}
 use Rattle.exact.proofs.Rounding.{rounded-scale}
 use Rattle.model.specs.Job.{InfluenceLine, Job, Limit, Live, noTraffic, normal, overload}
 use Rattle.model.specs.Line.{Kind, HN, HO, axle, bestPair, patchByte, patchBytes, uniformPart, lineEffect}
-use Rattle.model.specs.Lanes.{lowest, highest, reduction, transverseAt, bit, CentreFits}
+use Rattle.model.specs.Lanes.{reduction, transverseAt, bit, CentreFits}
 use Rattle.model.specs.Traffic.{lanes, laneEffect, setSum, bestSum, effectOf, trafficValue}
 use Rattle.model.specs.Rows.{rowValue, stateValue}
 use Rattle.model.specs.Arrangements.{Element, Load, unloaded, element, Arrangement, elementLine, elementEffect, carries, loadEffect, lanesUnder, sumUnder, sumOf, arranged, OverloadLanes, Lawful}
 use Rattle.model.specs.Answered.{laneAt, positionOf, reportedElement, reportedLoad, reported, reportedEffect, PositionRight, extremeOf, countedTraffic, omits}
+use Rattle.model.specs.Placements.{BestCentre, EntryRight, entryIs, placedLanes, placedUnder, placedSum}
 use Rattle.model.specs.declared.Sense.{Sense}
 use Rattle.model.specs.declared.Entry.{Entry}
 use Rattle.model.specs.declared.Entry.the-variants.{Unloaded, Hn, Ho}
@@ -87,38 +88,6 @@ unfolding patchBytes
 patch-byte line rest i h =
     let f : ℕ → ℕ = λ i. patchByte (line .piece i) in
     List·getD-append (patchBytes line) rest 0 i (rw (length-listOf (line .pieces) f) h) ∙ getD-listOf (line .pieces) f i 0 h
-
--- an element in lane i, at a centre within its limits where its sense's line effect gives the lane's best
-pub record BestCentre (q : Question) (job : Job) (kind : Kind) (sense : Sense) (i centre : ℕ) : Type 0 where
-  pub low : lowest (job .deck) i ≤ centre
-  pub high : centre ≤ highest (job .deck) i
-  pub best : transverseAt (job .deck) (lanes job) centre *ℤ lineEffect (job .line) kind sense ≡ laneEffect q job kind i
-
--- a lane's entry is as good as any of its kind
-abbrev pub EntryRight : Question → Job → ℕ → Entry → (centre : ℕ) → Type 0
-EntryRight q job i Unloaded centre = Unit {0}
-EntryRight q job i (Hn sense) centre = BestCentre q job HN sense i centre
-EntryRight q job i (Ho sense) centre = BestCentre q job HO sense i centre
-
--- an entry's kind
-abbrev pub entryIs : Kind → Entry → Bool
-entryIs kind Unloaded = false
-entryIs HN (Hn sense) = true
-entryIs HN (Ho sense) = false
-entryIs HO (Hn sense) = false
-entryIs HO (Ho sense) = true
-
--- how many of a placement's lanes are of a kind
-abbrev pub placedLanes : Job → Kind → Placement → ℕ
-placedLanes job kind p = countTo (lanes job) (λ i. entryIs kind (laneAt p i .entry))
-
--- the bests of those lanes
-abbrev pub placedUnder : Question → Job → Kind → Placement → ℤ
-placedUnder q job kind p = sumTo (lanes job) (λ i. if entryIs kind (laneAt p i .entry) then laneEffect q job kind i else pos 0)
-
--- a placement's sum: HO at 20, the HN lanes at the r of their number
-abbrev pub placedSum : Question → Job → Placement → ℤ
-placedSum q job p = pos 20 *ℤ placedUnder q job HO p +ℤ reduction (placedLanes job HN p) *ℤ placedUnder q job HN p
 
 module _ (q : Question) (job : Job) (patch rest : List ℕ) (a : Account) (bytes : patch ≡ patchBytes (job .line) ++ rest) (positions : (sense : Sense) → PositionRight (job .line) sense (positionOf a sense)) where
   abbrev n : ℕ

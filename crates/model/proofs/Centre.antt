@@ -7,7 +7,7 @@ use native.Mathlib.Decide.{decLe}
 use native.Mathlib.Omega.{arith}
 use lib.IntN.{ℤ, pos, _+ℤ_, _-ℤ_, _*ℤ_}
 use lib.Signed.{_≤ℤ_}
-use Rattle.exact.specs.Questions.{better, NoBetter, extreme}
+use Rattle.exact.specs.Questions.{better, NoBetter, extreme, other}
 use Rattle.exact.specs.declared.Question.{Question}
 use Rattle.exact.specs.declared.Question.the-variants.{Greatest, Least}
 use Rattle.exact.proofs.Exact.{total, pos-mono, prod, _⊕_, _⊗_, _⊝_, lit, _≐_, _≼_, _⇒_, solve, linear}
@@ -228,11 +228,6 @@ lane-bound q job i k e signed g-pos k-pos fits =
         (lane-centre (job .deck) i g-pos q k (e .centre) L best k-pos fits (λ y a b. no-better-trans q _ _ _ (one y) (lane-known q (job .deck) i raising lowering y a b)))))
 
 -- ---- a lane's best, by its best ordinates
--- the other question
-abbrev pub other : Question → Question
-other Greatest = Least
-other Least = Greatest
-
 -- a factor that is not negative keeps the question, one that is not positive turns it
 factor-up : (q : Question) (c x v : ℤ) → pos 0 ≤ℤ c → NoBetter q x v → NoBetter q (x *ℤ c) (v *ℤ c)
 factor-up Greatest c x v p h = linear 3 (λ c x v. lit 0 ≼ (c ⊝ lit 0) ⊗ (v ⊝ x) ⇒ x ⊗ c ≼ v ⊗ c) c x v (omega arith) (prod p h)

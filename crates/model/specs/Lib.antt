@@ -12,5 +12,6 @@ pub mod Rows
 pub mod Arrangements
 pub mod Numbers
 pub mod Answered
+pub mod Placements
 pub mod Determined
 pub mod Figures

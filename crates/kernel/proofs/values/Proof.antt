@@ -3,22 +3,30 @@ use mathlib.Core.List.{List}
 use Prim.Native.Nat.{ℕ}
 use Rattle.exact.specs.declared.Question.{Question}
 use Rattle.exact.specs.declared.Question.the-variants.{Greatest, Least}
+use Rattle.model.specs.Job.{Job}
 use Rattle.model.specs.Decode.{decode}
 use Rattle.model.specs.Line.{HN, HO}
 use Rattle.lanes.specs.Fits.{AcrossFits}
-use Rattle.lanes.specs.Traffic.{EffectsFit, Spanned}
+use Rattle.lanes.specs.Traffic.{TrafficFits, EffectsFit, Spanned}
+use Rattle.lanes.specs.declared.traffic.Effects.{Effects}
 use Rattle.kernel.specs.Parts.{effectsOf}
 use Rattle.kernel.proofs.Fits.{sized, across-fits}
-use Rattle.kernel.proofs.Loads.{effects-are, effects-fit, traffic-fits, spanned, factor-is, normal-found, overload-found}
+use Rattle.kernel.proofs.Loads.{handed, effects-are, effects-fit, traffic-fits, spanned, factor-is, normal-found, overload-found}
 use borrow.Author.Needs.{needs}
 use Rattle.kernel.proofs.values.Statement.{statement}
 use Rattle.kernel.proofs.values.Tie as tie
 
-effects-requires : tie.Need-effects-requires
-effects-requires c κs = search needs
+effect-requires : tie.Need-effect-requires
+effect-requires c κs = c .before .pre .1 .0 .near
 
-effects-requires-2 : tie.Need-effects-requires-2
-effects-requires-2 c κs = search needs
+effect-requires-2 : tie.Need-effect-requires-2
+effect-requires-2 c κs = c .before .before .pre .1 .1 .near
+
+effect-requires-3 : tie.Need-effect-requires-3
+effect-requires-3 c κs = c .before .before .before .pre .1 .0 .near
+
+effect-requires-4 : tie.Need-effect-requires-4
+effect-requires-4 c κs = c .before .before .before .before .pre .1 .1 .near
 
 lane-count-requires : tie.Need-lane-count-requires
 lane-count-requires c κs = search needs
@@ -27,63 +35,83 @@ factor-requires : tie.Need-factor-requires
 factor-requires c κs = search needs
 
 transverse-requires : tie.Need-transverse-requires
-transverse-requires c κs = sized (c .before .before .before .before .before .pre .0)
+transverse-requires c κs = sized (c .before .before .before .before .before .before .before .pre .0)
 
 spans-requires : tie.Need-spans-requires
 spans-requires c κs =
-    let s = c .before .before .before .before .before .before in
+    let s = c .before .before .before .before .before .before .before .before in
     (subst (λ (l : List ℕ). AcrossFits l (s .args .head .width) (s .args .head .spacing)) (sym (c .transverse .ensures)) (across-fits (s .pre .0)), c .before .before .lane-count .ensures .0)
 
-normal-requires : tie.Need-normal-requires
-normal-requires c κs =
-    let s = c .before .before .before .before .before .before .before in
-    let e = c .before .before .before .before .before .effects in (
-      traffic-fits (s .pre .0) (c .before .transverse .ensures) (c .spans .result) (c .before .before .before .lane-count .ensures) (c .before .before .factor .ensures) (c .spans .ensures .1 .0),
-      effects-fit (decode (s .args .job .now)) HN (s .args .raising) (s .args .lowering) (s .pre .1 .0) (s .pre .1 .1) (e .result) (e .ensures .0) (e .ensures .1),
-    )
+module _ (c : tie.After-spans) where
+  abbrev counted : tie.After-lane-count
+  counted = c .before .before .before
 
-ho-fit : (c : tie.After-spans) → EffectsFit 102000000 (c .before .before .before .before .effects2 .result)
-ho-fit c =
-    let s = c .before .before .before .before .before .before .before in
-    let e = c .before .before .before .before .effects2 in
-    effects-fit (decode (s .args .job .now)) HO (s .args .raising) (s .args .lowering) (s .pre .1 .0) (s .pre .1 .1) (e .result) (e .ensures .0) (e .ensures .1)
+  abbrev formed : tie.After-effect4
+  formed = counted .before
+
+  abbrev st : tie.Start
+  st = formed .before .before .before .before .before
+
+  abbrev job : Job
+  job = decode (st .args .job .now)
+
+  abbrev hn : Effects
+  hn = handed (formed .before .before .before .effect .result) (formed .before .before .effect2 .result)
+
+  abbrev ho : Effects
+  ho = handed (formed .before .effect3 .result) (formed .effect4 .result)
+
+  hn-are : hn ≡ effectsOf job HN
+  hn-are = effects-are job HN (st .pre .1 .0) (st .pre .1 .1) (formed .before .before .before .effect .ensures) (formed .before .before .effect2 .ensures)
+
+  hn-fit : EffectsFit 86000000 hn
+  hn-fit = effects-fit job HN (st .pre .1 .0) (st .pre .1 .1) (formed .before .before .before .effect .ensures) (formed .before .before .effect2 .ensures)
+
+  ho-are : ho ≡ effectsOf job HO
+  ho-are = effects-are job HO (st .pre .1 .0) (st .pre .1 .1) (formed .before .effect3 .ensures) (formed .effect4 .ensures)
+
+  ho-fit : EffectsFit 102000000 ho
+  ho-fit = effects-fit job HO (st .pre .1 .0) (st .pre .1 .1) (formed .before .effect3 .ensures) (formed .effect4 .ensures)
+
+  fits : TrafficFits (c .spans .result) (counted .lane-count .result) (st .args .head .spacing) (c .before .before .factor .result)
+  fits = traffic-fits (st .pre .0) (c .before .transverse .ensures) (c .spans .result) (counted .lane-count .ensures) (c .before .before .factor .ensures) (c .spans .ensures .1 .0)
+
+  over : Spanned (job .deck) (c .spans .result) (counted .lane-count .result) (st .args .head .spacing)
+  over = spanned (st .pre .0) (c .before .transverse .ensures) (c .spans .result) (counted .lane-count .ensures) (c .before .before .factor .ensures) (c .spans .ensures .1 .0)
+
+  factor : (q : Question) → c .before .before .factor .result ≡ job .dynamic q
+  factor = factor-is (st .pre .0) (c .before .transverse .ensures) (c .spans .result) (counted .lane-count .ensures) (c .before .before .factor .ensures) (c .spans .ensures .1 .0)
+
+normal-requires : tie.Need-normal-requires
+normal-requires c κs = (fits c, hn-fit c)
 
 normal-requires-2 : tie.Need-normal-requires-2
 normal-requires-2 c κs = normal-requires (c .before) κs
 
 overload-requires : tie.Need-overload-requires
-overload-requires c κs = let n = normal-requires (c .before .before) κs in (n .0, (n .1, ho-fit (c .before .before)))
+overload-requires c κs = let d = c .before .before in (fits d, (hn-fit d, ho-fit d))
 
 overload-requires-2 : tie.Need-overload-requires-2
-overload-requires-2 c κs = let n = normal-requires (c .before .before .before) κs in (n .0, (n .1, ho-fit (c .before .before .before)))
+overload-requires-2 c κs = overload-requires (c .before) κs
 
 returns : tie.Need-returns
 returns c =
     let at = c .before .before .before .before in
-    let s = at .before .before .before .before .before .before .before in
-    let job = decode (s .args .job .now) in
     let d = at .before .before .factor .result in
-    let hn = at .before .before .before .before .before .effects in
-    let ho = at .before .before .before .before .effects2 in
-    let f : (q : Question) → d ≡ job .dynamic q = factor-is (s .pre .0) (at .before .transverse .ensures) (at .spans .result) (at .before .before .before .lane-count .ensures) (at .before .before .factor .ensures) (at .spans .ensures .1 .0) in
-    let over : Spanned (job .deck) (at .spans .result) (at .before .before .before .lane-count .result) (s .args .head .spacing) =
-    spanned (s .pre .0) (at .before .transverse .ensures) (at .spans .result) (at .before .before .before .lane-count .ensures) (at .before .before .factor .ensures) (at .spans .ensures .1 .0) in
-    let n : hn .result ≡ effectsOf job HN = effects-are job HN (s .args .raising) (s .args .lowering) (s .pre .1 .0) (s .pre .1 .1) (hn .result) (hn .ensures .0) in
-    let o : ho .result ≡ effectsOf job HO = effects-are job HO (s .args .raising) (s .args .lowering) (s .pre .1 .0) (s .pre .1 .1) (ho .result) (ho .ensures .0) in
     let ng = c .before .before .before .normal in
     let nl = c .before .before .normal2 in
     let og = c .before .overload in
     let ol = c .overload2 in
     record {
       normal = record {
-        greatest = normal-found Greatest job d (hn .result) (ng .result) (f Greatest) n (ng .ensures .1 (job .deck) over);
-        least = normal-found Least job d (hn .result) (nl .result) (f Least) n (nl .ensures .1 (job .deck) over);
+        greatest = normal-found Greatest (job at) d (hn at) (ng .result) (factor at Greatest) (hn-are at) (ng .ensures .1 (job at .deck) (over at));
+        least = normal-found Least (job at) d (hn at) (nl .result) (factor at Least) (hn-are at) (nl .ensures .1 (job at .deck) (over at));
         nearGreatest = ng .ensures .0;
         nearLeast = nl .ensures .0;
       };
       overload = record {
-        greatest = overload-found Greatest job d (hn .result) (ho .result) (og .result) (f Greatest) n o (og .ensures .1 (job .deck) over);
-        least = overload-found Least job d (hn .result) (ho .result) (ol .result) (f Least) n o (ol .ensures .1 (job .deck) over);
+        greatest = overload-found Greatest (job at) d (hn at) (ho at) (og .result) (factor at Greatest) (hn-are at) (ho-are at) (og .ensures .1 (job at .deck) (over at));
+        least = overload-found Least (job at) d (hn at) (ho at) (ol .result) (factor at Least) (hn-are at) (ho-are at) (ol .ensures .1 (job at .deck) (over at));
         nearGreatest = og .ensures .0;
         nearLeast = ol .ensures .0;
       };
@@ -94,8 +122,10 @@ pub values-spec : {M : Type 1} → statement M
 values-spec =
     tie.close
     (tie.spec
-    effects-requires
-    effects-requires-2
+    effect-requires
+    effect-requires-2
+    effect-requires-3
+    effect-requires-4
     lane-count-requires
     factor-requires
     transverse-requires

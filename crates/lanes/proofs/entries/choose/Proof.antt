@@ -4,11 +4,10 @@ use lib.Dec.{lit<}
 use mir.Syntax.{w64}
 use borrow.Author.Needs.{needs}
 use Rattle.exact.specs.Bounds.{Within}
-use Rattle.exact.specs.Questions.{beats}
+use Rattle.exact.specs.Questions.{beats, other}
 use Rattle.exact.specs.declared.Question.{Question}
 use Rattle.exact.proofs.Extremes.{beats-yes, beats-no}
 use Rattle.exact.proofs.Held.{Kept, arg, known, retold, beats-held, times, times! }
-use Rattle.model.proofs.Centre.{other}
 use Rattle.lanes.specs.declared.centres.Centre.{Centre}
 use Rattle.lanes.specs.declared.centres.Span.{Span}
 use Rattle.lanes.specs.Entries.{bestOf, SpanNear}

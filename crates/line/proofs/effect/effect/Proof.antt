@@ -10,8 +10,17 @@ use Rattle.line.proofs.effect.effect.Statement.{statement}
 use Rattle.line.proofs.effect.effect.Tie as tie
 
 module _ (s : tie.Start) where
+  abbrev uniform : Kept w64 (up (s .args .uniform)) (s .args .uniform)
+  uniform = (_, arg (s .fits .uniform) (within-up (s .args .uniform) (s .pre .1 .0 .0)))
+
+  abbrev area : Kept w64 10000000 (s .args .s .area)
+  area = (_, known w64 (s .pre .0 .area) (lit< tt))
+
+  abbrev load : Kept w64 (up (s .args .uniform) * 10000000) (s .args .uniform *ℤ s .args .s .area)
+  load = (_, times (uniform .1) (area .1) (omega arith))
+
   abbrev axle : Kept w64 (up (s .args .axle)) (s .args .axle)
-  axle = (_, arg (s .fits .axle) (within-up (s .args .axle) (s .pre .1 .0)))
+  axle = (_, arg (s .fits .axle) (within-up (s .args .axle) (s .pre .1 .1 .0)))
 
   abbrev pair : Kept w64 10000 (s .args .s .pair)
   pair = (_, known w64 (s .pre .0 .pair) (lit< tt))
@@ -19,17 +28,17 @@ module _ (s : tie.Start) where
   abbrev axles : Kept w64 (up (s .args .axle) * 10000) (s .args .axle *ℤ s .args .s .pair)
   axles = (_, times (axle .1) (pair .1) (omega arith))
 
-  abbrev uniform : Kept w64 70000000 (s .args .s .uniform)
-  uniform = (_, known w64 (s .pre .0 .uniform) (lit< tt))
-
 mul-result : tie.Need-mul-result
-mul-result c = times! (axle (c .before .before) .1) (pair (c .before .before) .1) (omega arith)
+mul-result c = let s = c .before .before in times! (uniform s .1) (area s .1) (omega arith)
+
+mul-result-2 : tie.Need-mul-result-2
+mul-result-2 c = let s = c .before .before .before .before in times! (axle s .1) (pair s .1) (omega arith)
 
 add-result : tie.Need-add-result
-add-result c = let s = c .before .before .before .before in plus! (uniform s .1) (axles s .1) (omega arith)
+add-result c = let s = c .before .before .before .before in plus! (load s .1) (axles s .1) (omega arith)
 
 returns : tie.Need-returns
-returns c = let s = c .before .before .before .before in told (plus (uniform s .1) (axles s .1) (omega arith))
+returns c = let s = c .before .before .before .before in told (plus (load s .1) (axles s .1) (omega arith))
 
 pub effect-spec : {M : Type 1} → statement M
-effect-spec = tie.close (tie.spec mul-result add-result returns)
+effect-spec = tie.close (tie.spec mul-result mul-result-2 add-result returns)

@@ -14,15 +14,15 @@ use Rattle.model.specs.Line.{station, bestPair, sought}
 use Rattle.model.specs.declared.Sense.{Sense}
 use Rattle.model.specs.declared.Sense.the-variants.{Raising, Lowering}
 use Rattle.line.specs.Stands.{Stands, standFor}
-use Rattle.line.specs.Sought.{uniformFor, SoughtRight}
+use Rattle.line.specs.Sought.{areaFor, SoughtRight}
 use Rattle.line.specs.declared.effect.Sought.{Sought}
 use Rattle.line.proofs.Standing.{stands-position}
 use borrow.Author.Needs.{needs}
 use Rattle.line.proofs.effect.seek.Statement.{statement}
 use Rattle.line.proofs.effect.seek.Tie as tie
 
-uniform-parts-requires : tie.Need-uniform-parts-requires
-uniform-parts-requires c κs = search needs
+double-areas-requires : tie.Need-double-areas-requires
+double-areas-requires c κs = search needs
 
 best-requires : tie.Need-best-requires
 best-requires c κs = search needs
@@ -42,36 +42,44 @@ module _ (c : tie.After-best) where
   few : (sense : Sense) → standFor (sought sense) (c .best .result) .station ≤ 1050
   few sense = omega (arith, found sense .station, div-le-self 50 (st .args .h))
 
-  abbrev uniform : Sense → ℤ
-  uniform sense = uniformFor sense (c .before .uniform-parts .result)
+  abbrev area : Sense → ℤ
+  area sense = areaFor sense (c .before .double-areas .result)
 
-  -- by a uniform load and the stand found for the sense
+  -- by an area and the stand found for the sense
   abbrev of : Sense → ℤ → Sought
-  of sense u =
+  of sense a =
       let s = standFor (sought sense) (c .best .result) in
-      record { uniform = u; pair = s .value; position = record { station = station line (s .station); side = s .side } }
+      record { area = a; pair = s .value; position = record { station = station line (s .station); side = s .side } }
 
-  right : (sense : Sense) → SoughtRight line sense (of sense (uniform sense))
+  right : (sense : Sense) → SoughtRight line sense (of sense (area sense))
   right sense =
-      let u = c .before .uniform-parts .ensures sense in
+      let a = c .before .double-areas .ensures sense in
       let p = found sense in
       record {
-        uniform = u .0;
+        area = a .0;
         pair = p .value;
         position = stands-position line sense p;
-        near = record { uniform = u .1; pair = subst (Within 10000) (sym (p .value)) (p .near) };
+        near = record { area = a .1; pair = subst (Within 10000) (sym (p .value)) (p .near) };
       }
 
-  -- as the load was passed
-  passed : (sense : Sense) {r : Sought} → r ≡ of sense (toZ w64 (ofZ w64 (uniform sense))) → SoughtRight line sense r
+  -- as the area was passed
+  passed : (sense : Sense) {r : Sought} → r ≡ of sense (toZ w64 (ofZ w64 (area sense))) → SoughtRight line sense r
   passed sense e =
-      subst (SoughtRight line sense) (sym (e ∙ ap (of sense) (known w64 (c .before .uniform-parts .ensures sense .1) (lit< tt) .is))) (right sense)
+      subst (SoughtRight line sense) (sym (e ∙ ap (of sense) (known w64 (c .before .double-areas .ensures sense .1) (lit< tt) .is))) (right sense)
 
 sought-at-requires : tie.Need-sought-at-requires
-sought-at-requires c κs = (c .before .before .before .before .before .before .pre .1 .0, few (c .before .before .before) Raising)
+sought-at-requires c κs =
+    let d = c .before .before .before in
+    let up = few d Raising in
+    let down = few d Lowering in
+    (st d .pre .1 .0, omega arith)
 
 sought-at-requires-2 : tie.Need-sought-at-requires-2
-sought-at-requires-2 c κs = (c .before .before .before .before .before .before .before .before .pre .1 .0, few (c .before .before .before .before .before) Lowering)
+sought-at-requires-2 c κs =
+    let d = c .before .before .before .before .before in
+    let up = few d Raising in
+    let down = few d Lowering in
+    (st d .pre .1 .0, omega arith)
 
 returns : tie.Need-returns
 returns c Raising = passed (c .before .before .before .before .before .before) Raising (c .before .before .sought-at .ensures)
@@ -81,7 +89,7 @@ pub seek-spec : {M : Type 1} → statement M
 seek-spec =
     tie.close
     (tie.spec
-    uniform-parts-requires
+    double-areas-requires
     best-requires
     sought-at-requires
     sought-at-requires-2

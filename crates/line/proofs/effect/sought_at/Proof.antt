@@ -46,7 +46,7 @@ sub-t9 c = minus! (right c .1) (apart c .1) (lit< tt)
 returns : tie.Need-returns
 returns c =
     let d = c .before in
-    rw (any (st d .fits .uniform) .is, pair-read d, left d .1 .is) refl
+    rw (any (st d .fits .area) .is, pair-read d, left d .1 .is) refl
 
 pub sought-at-spec : {M : Type 1} → statement M
 sought-at-spec = tie.close (tie.spec cast-t6 spacing-requires cast-t8 sub-t9 returns)

@@ -12,10 +12,11 @@ use Rattle.exact.proofs.Held.{told, Held, Kept, lit, nat, got, loosen, plus, pl
 use Rattle.model.specs.declared.Sense.{Sense}
 use Rattle.model.specs.declared.Sense.the-variants.{Raising, Lowering}
 use Rattle.model.specs.Decode.{pieceAt}
-use Rattle.model.specs.Line.{loadedSum, uniformPart}
-use Rattle.line.proofs.Fitting.{fits-piece, uniform-room}
-use Rattle.line.proofs.pieces.uniform_parts.Statement.{statement}
-use Rattle.line.proofs.pieces.uniform_parts.Tie as tie
+use Rattle.model.specs.Line.{loadedSum}
+use Rattle.line.specs.Sought.{doubleArea}
+use Rattle.line.proofs.Fitting.{fits-piece, area-room}
+use Rattle.line.proofs.pieces.double_areas.Statement.{statement}
+use Rattle.line.proofs.pieces.double_areas.Tie as tie
 
 -- a sense's sum over the first i pieces
 abbrev SumHeld : List ℕ → ℕ → ℕ → Sense → Type 0
@@ -55,8 +56,8 @@ loop-again c =
     let down = got w64 (c .loaded-sum2 .ok) (c .loaded-sum2 .ensures) in
     (omega arith, (rw sum-step (loosen (plus (l .inv .1 .0) up (omega arith)) (omega arith)), rw sum-step (loosen (plus (l .inv .1 .1) down (omega arith)) (omega arith))))
 
-cast-unit : tie.Need-cast-unit Inv-loop μ-loop
-cast-unit c = search needs
+cast-length : tie.Need-cast-length Inv-loop μ-loop
+cast-length c = search needs
 
 module _ (c : tie.After-loop Inv-loop μ-loop) where
   abbrev st : tie.Start Inv-loop μ-loop
@@ -65,11 +66,8 @@ module _ (c : tie.After-loop Inv-loop μ-loop) where
   abbrev length-held : Kept w64 (st .args .h) (pos (st .args .h))
   length-held = (_, nat w64 (st .args .h) (omega arith) (omega arith))
 
-  abbrev unit : Kept w64 (7 * st .args .h) (pos 7 *ℤ pos (st .args .h))
-  unit = (_, times (lit w64 7 (lit< tt)) (length-held .1) (omega arith))
-
-  room : (7 * st .args .h) * (10000 * st .args .n) ≤ 70000000
-  room = uniform-room (st .args .h) (st .args .n) (st .pre .1 .1)
+  room : st .args .h * (10000 * st .args .n) ≤ 10000000
+  room = area-room (st .args .h) (st .args .n) (st .pre .1 .1)
 
   -- a sense's sum over all pieces
   total : {sum : ℕ} (sense : Sense) → SumHeld (st .args .line .now) (c .before .loop .i) sum sense → SumHeld (st .args .line .now) (st .args .n) sum sense
@@ -77,22 +75,19 @@ module _ (c : tie.After-loop Inv-loop μ-loop) where
       let e : c .before .loop .i ≡ st .args .n = omega arith in
       subst (λ (k : ℕ). SumHeld (st .args .line .now) k sum sense) e t
 
-mul-unit : tie.Need-mul-unit Inv-loop μ-loop
-mul-unit c = times! (lit w64 7 (lit< tt)) (length-held c .1) (omega arith)
-
 mul-t11 : tie.Need-mul-t11 Inv-loop μ-loop
-mul-t11 c = times! (unit c .1) (total c Raising (c .before .loop .inv .1 .0)) (omega (arith, room c))
+mul-t11 c = times! (length-held c .1) (total c Raising (c .before .loop .inv .1 .0)) (omega (arith, room c))
 
 mul-t12 : tie.Need-mul-t12 Inv-loop μ-loop
-mul-t12 c = times! (unit c .1) (total c Lowering (c .before .loop .inv .1 .1)) (omega (arith, room c))
+mul-t12 c = times! (length-held c .1) (total c Lowering (c .before .loop .inv .1 .1)) (omega (arith, room c))
 
 returns : tie.Need-returns Inv-loop μ-loop
-unfolding uniformPart
-returns c Raising = told (loosen (times (unit c .1) (total c Raising (c .before .loop .inv .1 .0)) (omega (arith, room c))) (room c))
-returns c Lowering = told (loosen (times (unit c .1) (total c Lowering (c .before .loop .inv .1 .1)) (omega (arith, room c))) (room c))
+unfolding doubleArea
+returns c Raising = told (loosen (times (length-held c .1) (total c Raising (c .before .loop .inv .1 .0)) (omega (arith, room c))) (room c))
+returns c Lowering = told (loosen (times (length-held c .1) (total c Lowering (c .before .loop .inv .1 .1)) (omega (arith, room c))) (room c))
 
-pub uniform-parts-spec : {M : Type 1} → statement M
-uniform-parts-spec =
+pub double-areas-spec : {M : Type 1} → statement M
+double-areas-spec =
     tie.close
     (tie.spec
     Inv-loop
@@ -105,8 +100,7 @@ uniform-parts-spec =
     add-i
     loop-less
     loop-again
-    cast-unit
-    mul-unit
+    cast-length
     mul-t11
     mul-t12
     returns)

@@ -1,0 +1,16 @@
+use mir.Syntax.{w64}
+use borrow.Author.Needs.{needs}
+use Rattle.exact.proofs.Held.{got, told}
+use Rattle.model.specs.Line.{HO}
+use Rattle.line.proofs.Results.{kind-effect}
+use Rattle.line.proofs.kinds.Ho.effect.Statement.{statement}
+use Rattle.line.proofs.kinds.Ho.effect.Tie as tie
+
+effect-requires : tie.Need-effect-requires
+effect-requires c κs = search needs
+
+returns : tie.Need-returns
+returns c = kind-effect HO (c .before .args .s) (told (got w64 (c .effect .ok) (c .effect .ensures)))
+
+pub effect-spec : {M : Type 1} → statement M
+effect-spec = tie.close (tie.spec effect-requires returns)
