@@ -1,17 +1,26 @@
 // Chains in the record section: a record's words, whether a chain ends, whether it names an effect twice.
 ghost use mathlib.Core.Path.{_≡_};
-ghost use Prim.Native.Nat.{_*_, _≤_};
+ghost use Prim.Native.Nat.{_+_, _-_, _*_, _≤_, _<_};
 ghost use lib.ListN.{length};
 ghost use lib.Dec.{eqb};
+ghost use Rattle.model.specs.Words.{countAt};
 ghost use Rattle.model.specs.Chains.{recordEffect, recordFactor, nextRecord, walk, namesTwice};
 ghost use Rattle.chains.specs.Linked.{Linked, EffectsTo};
+
+// Record c's word j, from 0, as a count.
+fn word(records: &[u8], c: usize, j: usize) -> usize
+    requires { ⌜ (1 ≤ c) × (12 * c ≤ length (now records)) × (j < 3) ⌝ }
+    ensures { λ r. ⌜ (r ≡ countAt (now (records .entry)) (3 * (c - 1) + j)) × (r ≤ 2147483648) ⌝ }
+{
+    words::count(records, 3 * (c - 1) + j)
+}
 
 // Record c's effect.
 pub fn effect(records: &[u8], c: usize) -> usize
     requires { ⌜ (1 ≤ c) × (12 * c ≤ length (now records)) ⌝ }
     ensures { λ r. ⌜ (r ≡ recordEffect (now (records .entry)) c) × (r ≤ 2147483648) ⌝ }
 {
-    words::count(records, 3 * (c - 1))
+    word(records, c, 0)
 }
 
 // Record c's factor, in thousandths.
@@ -19,7 +28,7 @@ pub fn factor(records: &[u8], c: usize) -> usize
     requires { ⌜ (1 ≤ c) × (12 * c ≤ length (now records)) ⌝ }
     ensures { λ r. ⌜ (r ≡ recordFactor (now (records .entry)) c) × (r ≤ 2147483648) ⌝ }
 {
-    words::count(records, 3 * (c - 1) + 1)
+    word(records, c, 1)
 }
 
 // The record after c on its chain; 0 ends it.
@@ -27,7 +36,7 @@ pub fn next(records: &[u8], c: usize) -> usize
     requires { ⌜ (1 ≤ c) × (12 * c ≤ length (now records)) ⌝ }
     ensures { λ r. ⌜ (r ≡ nextRecord (now (records .entry)) c) × (r ≤ 2147483648) ⌝ }
 {
-    words::count(records, 3 * (c - 1) + 2)
+    word(records, c, 2)
 }
 
 // The chain from c ends within so many visits.

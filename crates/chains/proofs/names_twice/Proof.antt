@@ -59,7 +59,10 @@ array-write-seen : tie.Need-array-write-seen Inv-loop μ-loop
 array-write-seen c = omega (arith, at-most (c .before))
 
 next-requires : tie.Need-next-requires Inv-loop μ-loop
-next-requires c κs = (pos-of-ne-zero (c .before .before .if1 .left), c .before .before .before .before .loop .inv .2)
+next-requires c κs =
+    let there = pos-of-ne-zero (c .before .before .if1 .left) in
+    let inside = c .before .before .before .before .loop .inv .2 in
+    (omega arith, omega arith)
 
 add-counter : tie.Need-add-counter Inv-loop μ-loop
 add-counter c = omega arith

@@ -20,7 +20,7 @@ loop-holds : tie.Need-loop-holds Inv-loop μ-loop
 loop-holds c = (omega arith, refl)
 
 patch-byte-requires : tie.Need-patch-byte-requires Inv-loop μ-loop
-patch-byte-requires c κs = fits-piece (c .before .before .before .before .pre .0) (c .before .loop .i) (omega arith)
+patch-byte-requires c κs = fits-piece (c .before .before .before .before .pre .0) _ (omega arith)
 
 slice-write-patch : tie.Need-slice-write-patch Inv-loop μ-loop
 slice-write-patch c =
