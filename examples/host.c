@@ -1,7 +1,8 @@
 /* A host in C99: packs Job A, calls the kernel and prints its account for a person to read.
  *
  *   tools/package
- *   gcc -std=c99 -Itarget/dist examples/host.c target/dist/libhnho.a -o target/host
+ *   export PKG_CONFIG_PATH=target/dist/lib/pkgconfig
+ *   gcc -std=c99 $(pkg-config --cflags hnho) examples/host.c $(pkg-config --libs hnho) -o target/host
  *   target/host
  */
 #include <inttypes.h>
@@ -107,7 +108,7 @@ static void print_placement(const char *name, const uint8_t *account, size_t val
     int entry = hnho_entry(account, set, lane);
     printf("    lane %d  %s", (int)lane, entry_name(entry));
     if (entry != HNHO_UNLOADED)
-      printf(", centre %.1f cm", (double)hnho_centre(account, set, lane) / LANES);
+      printf(", centre %.1f cm", (double)hnho_centre(account, set, lane) / (int)LANES);
     printf("\n");
   }
 }
