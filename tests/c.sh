@@ -39,6 +39,18 @@ page() {
   "$1" >target/c/host.out && diff -u examples/host.expected target/c/host.out
 }
 
+# fails HOST JOB TEXT: the example prints nothing on the job, says this and has status 1
+fails() {
+  "$1" "$2" >target/c/host.out 2>target/c/host.err
+  [ $? -eq 1 ] && [ ! -s target/c/host.out ] && printf '%s\n' "$3" | diff -u - target/c/host.err
+}
+
+# another_layout: the example with a header of layout 2
+another_layout() {
+  mkdir -p target/c/other && sed 's/^#define HNHO_LAYOUT .*/#define HNHO_LAYOUT 2/' include/hnho.h >target/c/other/hnho.h &&
+    gcc -std=c99 $warnings -Itarget/c/other examples/host.c target/dist/lib/libhnho.a -o target/c/other/host
+}
+
 # install_in FOLDER PREFIX: an installation, PREFIX being a path from FOLDER
 install_in() {
   local top=$PWD
@@ -64,6 +76,11 @@ done
 
 step 'compiling examples/host.c' compile examples/host.c target/c/host
 step 'the page of Job A' page target/c/host
+head -c 336 examples/job-a.bin >target/c/short.bin
+step 'a refused job' fails target/c/host target/c/short.bin \
+  'refused 3 at 85: not the number of words that the header calls for: mended by whoever packs the job'
+step 'a header of another layout' another_layout
+step 'the message about another layout' fails target/c/other/host examples/job-a.bin 'host: hnho.h and libhnho.a are of different layouts'
 
 step 'compiling tests/host_edges.c' compile tests/host_edges.c target/c/host_edges
 step 'tests/host_edges.c' target/c/host_edges examples/job-a.bin

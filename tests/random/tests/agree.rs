@@ -1,9 +1,9 @@
 //! The kernel agrees with the second implementation on generated jobs, and no drawn arrangement beats a report.
 
-use random::{call, solve, ACCOUNT_BYTES};
+use random::{call, judged, solve, ACCOUNT_BYTES};
 use second::job::Job;
 use second::words::words_of;
-use second::{checker, generator, sampler};
+use second::{generator, sampler};
 
 /// Checks COUNT cases from SEED on (environment, with these defaults).
 fn asked(name: &str, default: u64) -> u64 {
@@ -22,11 +22,8 @@ fn kernel_and_second_implementation_agree() {
     let mut refused = [0u64; 10];
     for seed in first..first + count {
         let case = generator::case(seed);
-        let mut patch = case.patch.clone();
-        let answer = solve(&case.job, &mut patch);
-        if let Err(fault) = checker::check(&case.job, &case.patch, &patch, &answer) {
-            panic!("seed {seed}: {fault}");
-        }
+        let answer =
+            judged(&case.job, &case.patch).unwrap_or_else(|fault| panic!("seed {seed}: {fault}"));
         refused[answer.refusal as usize] += 1;
     }
     println!("{count} cases from seed {first}, by refusal {refused:?}");
