@@ -84,3 +84,31 @@ pub fn read(bytes: &[u8; ACCOUNT_BYTES]) -> Account {
     }
     account
 }
+
+#[cfg(test)]
+mod tests {
+    use super::*;
+
+    /// An account whose number k is k: generated jobs cannot tell apart the fields that are 0 in all of theirs.
+    #[test]
+    fn fields_are_read_from_their_places() {
+        let mut bytes = [0; ACCOUNT_BYTES];
+        for (k, number) in (0..).zip(bytes.chunks_exact_mut(8)) {
+            number[0] = k;
+        }
+        let account = read(&bytes);
+        let governing = account.service.greatest;
+        assert_eq!(
+            [governing.left_out, governing.unladen, governing.k],
+            [135, 136, 137]
+        );
+        let lane = account.overload_least_placement.lane[9];
+        assert_eq!([lane.entry, lane.centre, lane.factor], [129, 130, 131]);
+        let counts = [
+            account.first_lanes,
+            account.second_lanes,
+            account.records_walked,
+        ];
+        assert_eq!(counts, [154, 155, 156]);
+    }
+}
