@@ -1,5 +1,5 @@
--- An account takes 560 bytes, and a host that reads eight of them finds the number that stands there.
-use mathlib.Core.Path.{_≡_, refl, ap, _∙_}
+-- An account takes its size in bytes, and a host that reads eight of them finds the number that stands there.
+use mathlib.Core.Path.{_≡_, refl, sym, ap, subst, _∙_}
 use mathlib.Core.List.{List, [], _∷_, _++_}
 use Prim.Native.Nat.{ℕ, zero, suc, _+_, _*_, _/_, _%_, _^_, _<_}
 use native.Mathlib.Nat.{not-suc-le-zero, le-of-suc-le-suc}
@@ -12,22 +12,23 @@ use mir.Facts.{toZ-ofZ, fits-ofZ}
 use Rattle.model.specs.declared.State.{State}
 use Rattle.model.specs.declared.State.the-variants.{Absent, Reported}
 use Rattle.model.specs.declared.Account.{Account}
-use Rattle.encode.specs.Encoding.{limitNumbers, accountNumbers, numberBytes, bytesOf, accountBytes, numberOf}
-use Rattle.encode.proofs.Stores.{bytes-length}
+use Rattle.encode.specs.Encoding.{accountCount, accountSize, limitNumbers, countNumbers, accountNumbers, numberBytes, bytesOf, accountBytes, numberOf, ReadBack, AllFit}
+use Rattle.encode.proofs.Puts.{bytes-length}
 
-pub nine : (s : State) → length (limitNumbers s) ≡ 9
-nine Absent = refl
-nine (Reported greatest least) = refl
+pub limit-length : (s : State) → length (limitNumbers s) ≡ 11
+limit-length Absent = refl
+limit-length (Reported greatest least) = refl
 
-pub seventy : (a : Account) → length (accountNumbers a) ≡ 70
-seventy a =
-    let s = nine (a .service) in
-    let u = nine (a .ultimate) in
-    let b = length-append (limitNumbers (a .service)) (limitNumbers (a .ultimate)) in
+pub account-count : (a : Account) → length (accountNumbers a) ≡ accountCount
+account-count a =
+    let s = limit-length (a .service) in
+    let u = limit-length (a .ultimate) in
+    let b = length-append (limitNumbers (a .service) ++ limitNumbers (a .ultimate)) (countNumbers a) in
+    let d = length-append (limitNumbers (a .service)) (limitNumbers (a .ultimate)) in
     omega arith
 
-pub account-length : (a : Account) → length (accountBytes a) ≡ 560
-account-length a = bytes-length (accountNumbers a) ∙ ap (λ (n : ℕ). 8 * n) (seventy a)
+pub account-length : (a : Account) → length (accountBytes a) ≡ accountSize
+account-length a = bytes-length (accountNumbers a) ∙ ap (λ (n : ℕ). 8 * n) (account-count a)
 
 -- eight digits to the base 256, each with what is above it
 horner : (x q₁ q₂ q₃ q₄ q₅ q₆ q₇ d₀ d₁ d₂ d₃ d₄ d₅ d₆ d₇ : ℕ) →
@@ -53,18 +54,27 @@ digits x h =
     (omega arith)
     (omega arith)
 
--- number k's bytes start at byte 8 * k
-bytes-from : (zs : List ℤ) (k : ℕ) → k < length zs → drop (8 * k) (bytesOf zs) ≡ numberBytes (getD zs k (pos 0)) ++ bytesOf (drop (suc k) zs)
+-- number k's bytes start at byte 8 * k, whatever follows
+bytes-from : (zs : List ℤ) (rest : List ℕ) (k : ℕ) → k < length zs → drop (8 * k) (bytesOf zs ++ rest) ≡ numberBytes (getD zs k (pos 0)) ++ (bytesOf (drop (suc k) zs) ++ rest)
 unfolding bytesOf
-bytes-from [] k h = absurd (not-suc-le-zero h)
-bytes-from (z ∷ zs) zero h = refl
-bytes-from (z ∷ zs) (suc k) h =
+bytes-from [] rest k h = absurd (not-suc-le-zero h)
+bytes-from (z ∷ zs) rest zero h = refl
+bytes-from (z ∷ zs) rest (suc k) h =
     let e : 8 * suc k ≡ suc (suc (suc (suc (suc (suc (suc (suc (8 * k)))))))) = omega arith in
-    ap (λ (n : ℕ). drop n (bytesOf (z ∷ zs))) e ∙ bytes-from zs k (le-of-suc-le-suc h)
+    ap (λ (n : ℕ). drop n (bytesOf (z ∷ zs) ++ rest)) e ∙ bytes-from zs rest k (le-of-suc-le-suc h)
 
--- THE HOST READS WHAT WAS WRITTEN: number k of an account, where it is within 64 bits
-pub number-read : (a : Account) (k : ℕ) → k < 70 → SFits w64 (getD (accountNumbers a) k (pos 0)) → numberOf (drop (8 * k) (accountBytes a)) ≡ getD (accountNumbers a) k (pos 0)
-number-read a k h f =
-    let e = seventy a in
-    let z = getD (accountNumbers a) k (pos 0) in
-    ap numberOf (bytes-from (accountNumbers a) k (omega arith)) ∙ ap (toZ w64) (digits (ofZ w64 z) (fits-ofZ f .fits)) ∙ toZ-ofZ f
+fit-at : (zs : List ℤ) → AllFit zs → (k : ℕ) → k < length zs → SFits w64 (getD zs k (pos 0))
+fit-at [] f k h = absurd (not-suc-le-zero h)
+fit-at (z ∷ zs) f zero h = f .0
+fit-at (z ∷ zs) f (suc k) h = fit-at zs (f .1) k (le-of-suc-le-suc h)
+
+-- THE HOST READS WHAT WAS WRITTEN: number k of numbers that 64 bits hold
+pub number-read : (zs : List ℤ) (rest : List ℕ) → AllFit zs → (k : ℕ) → k < length zs → numberOf (drop (8 * k) (bytesOf zs ++ rest)) ≡ getD zs k (pos 0)
+number-read zs rest fit k h =
+    let f = fit-at zs fit k h in
+    let z = getD zs k (pos 0) in
+    ap numberOf (bytes-from zs rest k h) ∙ ap (toZ w64) (digits (ofZ w64 z) (fits-ofZ f .fits)) ∙ toZ-ofZ f
+
+-- an account's numbers
+pub account-read : (a : Account) (rest : List ℕ) → AllFit (accountNumbers a) → ReadBack (accountBytes a ++ rest) a
+account-read a rest fit k h = number-read (accountNumbers a) rest fit k (subst (λ (n : ℕ). k < n) (sym (account-count a)) h)

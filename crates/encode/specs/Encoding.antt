@@ -1,23 +1,15 @@
--- An account as bytes: 70 numbers of eight bytes each, one after the other. Number k starts at byte 8 * k.
---   0 to 3    traffic values in N·U: normal greatest, normal least, overload greatest, overload least
---   4, 5      raising station and side
---   6, 7      lowering station and side
---   8 to 18   placement of normal greatest: the lane set, then each lane's entry and centre, lane 1 first
---   19 to 29  placement of normal least
---   30 to 40  placement of overload greatest
---   41 to 51  placement of overload least
---   52 to 60  service: 1 where reported, else 0; greatest value, row, effects left out, 1 where the traffic is left out; the same four for the least
---   61 to 69  ultimate
+-- An account as bytes: 157 numbers of eight bytes each, one after the other, in the order of `accountNumbers`. Number k starts at byte 8 * k; include/hnho.h names each place.
 -- Sides: 0 left, 1 right. Entries: 0 unloaded, 1 HN raising, 2 HN lowering, 3 HO raising, 4 HO lowering. A lane set has a bit a lane, the effects left out a bit an effect, the first the lowest.
+-- A reserved number is 0.
 use mathlib.Core.Path.{_≡_}
-use Prim.Native.Nat.{ℕ, zero, suc, _+_, _*_, _/_, _%_}
+use Prim.Native.Nat.{ℕ, zero, suc, _+_, _*_, _/_, _%_, _<_, _^_}
 use mathlib.Core.Bool.{Bool, true, false}
 use mathlib.Core.List.{List, [], _∷_, _++_}
 use lib.IntN.{ℤ, pos}
-use lib.ListN.{getD, replicate}
+use lib.ListN.{length, getD, drop, replicate}
 use lib.Seq.{sets}
 use mir.Syntax.{w64}
-use mir.Val.{toZ, ofZ}
+use mir.Val.{SFits, toZ, ofZ}
 use Rattle.model.specs.Numbers.{sideNumber, entryNumber}
 use Rattle.model.specs.Answered.{laneAt}
 use Rattle.model.specs.declared.Lane.{Lane}
@@ -29,7 +21,18 @@ use Rattle.model.specs.declared.State.{State}
 use Rattle.model.specs.declared.State.the-variants.{Absent, Reported}
 use Rattle.model.specs.declared.Account.{Account}
 
--- a live kind's greatest and least value
+-- the number of this layout, as a host asks for it
+abbrev pub layout : ℕ
+layout = 1
+
+-- the numbers of an account, and its bytes
+abbrev pub accountCount : ℕ
+accountCount = 157
+
+abbrev pub accountSize : ℕ
+accountSize = 8 * accountCount
+
+-- a live kind's greatest and least value, in N·U
 abbrev pub valueNumbers : Traffic → List ℤ
 valueNumbers t = t .greatest .value ∷ t .least .value ∷ []
 
@@ -37,18 +40,18 @@ valueNumbers t = t .greatest .value ∷ t .least .value ∷ []
 abbrev pub positionNumbers : Position → List ℤ
 positionNumbers p = p .station ∷ pos (sideNumber (p .side)) ∷ []
 
--- a lane's entry and centre
+-- a lane's entry and centre; its factor in twentieths is reserved
 abbrev pub laneNumbers : Lane → List ℤ
-laneNumbers l = pos (entryNumber (l .entry)) ∷ pos (l .centre) ∷ []
+laneNumbers l = pos (entryNumber (l .entry)) ∷ pos (l .centre) ∷ pos 0 ∷ []
 
 -- the first n lanes of a placement
 abbrev pub lanesNumbers : Placement → ℕ → List ℤ
 lanesNumbers p zero = []
 lanesNumbers p (suc n) = lanesNumbers p n ++ laneNumbers (laneAt p n)
 
--- a placement's lane set and its five lanes
+-- a placement's lane set, its five lanes, and five unloaded ones
 abbrev pub placementNumbers : Placement → List ℤ
-placementNumbers p = pos (p .set) ∷ lanesNumbers p 5
+placementNumbers p = pos (p .set) ∷ lanesNumbers p 5 ++ replicate 15 (pos 0)
 
 -- the placements of a live kind's greatest and least value
 abbrev pub placementsNumbers : Traffic → List ℤ
@@ -59,20 +62,25 @@ abbrev pub flagNumber : Bool → ℕ
 flagNumber false = 0
 flagNumber true = 1
 
--- a limit state's value, its row, the effects left out, and whether the traffic is
+-- a limit state's value in thousandths of N·U, its row, the effects left out, and whether the traffic is; its k is reserved
 abbrev pub governingNumbers : Governing → List ℤ
-governingNumbers g = g .value ∷ pos (g .row) ∷ pos (g .omitted) ∷ pos (flagNumber (g .unladen)) ∷ []
+governingNumbers g = g .value ∷ pos (g .row) ∷ pos (g .omitted) ∷ pos (flagNumber (g .unladen)) ∷ pos 0 ∷ []
 
 -- whether a limit state is reported, its greatest and its least; zeros for none
 abbrev pub limitNumbers : State → List ℤ
-limitNumbers Absent = replicate 9 (pos 0)
+limitNumbers Absent = replicate 11 (pos 0)
 limitNumbers (Reported greatest least) = pos 1 ∷ governingNumbers greatest ++ governingNumbers least
 
--- the 70 numbers of an account
+-- the lanes of the carriageway; those of a second one and the records walked are reserved
+abbrev pub countNumbers : Account → List ℤ
+countNumbers a = pos (a .lanes) ∷ pos 0 ∷ pos 0 ∷ []
+
+-- the numbers of an account
 abbrev pub accountNumbers : Account → List ℤ
 accountNumbers a =
     valueNumbers (a .normal) ++ valueNumbers (a .overload) ++ positionNumbers (a .raising) ++ positionNumbers (a .lowering)
     ++ placementsNumbers (a .normal) ++ placementsNumbers (a .overload) ++ limitNumbers (a .service) ++ limitNumbers (a .ultimate)
+    ++ countNumbers a
 
 -- the eight bytes of a 64-bit pattern, lowest first
 abbrev pub wordBytes : ℕ → List ℕ
@@ -93,13 +101,39 @@ bytesOf (z ∷ zs) = numberBytes z ++ bytesOf zs
 abbrev pub accountBytes : Account → List ℕ
 accountBytes a = bytesOf (accountNumbers a)
 
--- the number that the first eight bytes of a string stand for, as a host reads it
+-- the number that the first eight bytes of a string stand for
 abbrev pub numberOf : List ℕ → ℤ
 numberOf s =
     toZ w64
     (getD s 0 0 + 256 * getD s 1 0 + 65536 * getD s 2 0 + 16777216 * getD s 3 0
     + 4294967296 * getD s 4 0 + 1099511627776 * getD s 5 0 + 281474976710656 * getD s 6 0 + 72057594037927936 * getD s 7 0)
 
--- a buffer before and after the numbers' bytes were stored from `at` on
-pub record Stored (before : List ℕ) (at : ℕ) (numbers : List ℤ) (after : List ℕ) : Type 0 where
+-- what a host reads in an account's bytes are the account's numbers
+abbrev pub ReadBack : (bytes : List ℕ) → Account → Type 0
+ReadBack bytes a = (k : ℕ) → k < accountCount → numberOf (drop (8 * k) bytes) ≡ getD (accountNumbers a) k (pos 0)
+
+-- numbers that 64 bits hold
+abbrev pub AllFit : List ℤ → Type 0
+AllFit [] = Unit {0}
+AllFit (z ∷ zs) = SFits w64 z × AllFit zs
+
+-- a buffer before and after the bytes of numbers were put from `at` to `end`
+pub record Put (before : List ℕ) (at : ℕ) (numbers : List ℤ) (after : List ℕ) (end : ℕ) : Type 0 where
+  pub ends : end ≡ at + 8 * length numbers
   pub is : after ≡ sets before at (bytesOf numbers)
+  pub fit : AllFit numbers
+
+-- the counts that a type of 64 bits without sign holds are below 2 ^ 63, so that they are read back as they are
+abbrev pub CentresFit : Traffic → Type 0
+CentresFit t = (i : ℕ) → (laneAt (t .greatest .placement) i .centre < 2 ^ 63) × (laneAt (t .least .placement) i .centre < 2 ^ 63)
+
+abbrev pub RowsFit : State → Type 0
+RowsFit Absent = Unit {0}
+RowsFit (Reported greatest least) = (greatest .row < 2 ^ 63) × (least .row < 2 ^ 63)
+
+pub record CountsFit (a : Account) : Type 0 where
+  pub normal : CentresFit (a .normal)
+  pub overload : CentresFit (a .overload)
+  pub service : RowsFit (a .service)
+  pub ultimate : RowsFit (a .ultimate)
+  pub lanes : a .lanes < 2 ^ 63

@@ -1,4 +1,4 @@
-// An account as bytes for a host: 70 numbers of eight bytes each, in two's complement, lowest byte first. specs/Encoding.antt says which number stands where.
+// An account as bytes for a host: numbers of eight bytes each, in two's complement, lowest byte first. specs/Encoding.antt says which stands where. Each `put_` function puts numbers into `out` from `at` on and answers where they end.
 use model::Account;
 use model::Entry;
 use model::Governing;
@@ -11,17 +11,23 @@ use model::State;
 use model::Traffic;
 ghost use mathlib.Core.Path.{_≡_};
 ghost use mathlib.Core.List.{[], _∷_, _++_};
-ghost use Prim.Native.Nat.{_+_, _≤_};
+ghost use Prim.Native.Nat.{ℕ, _+_, _*_, _^_, _≤_, _<_};
 ghost use lib.IntN.{pos};
 ghost use lib.ListN.{length, drop, replicate};
+ghost use lib.Seq.{sets};
 ghost use mir.Syntax.{w64};
 ghost use mir.Val.{ofZ};
 ghost use Rattle.model.specs.Numbers.{sideNumber, entryNumber};
+ghost use Rattle.model.specs.Answered.{laneAt};
 ghost use Rattle.model.specs.declared.Entry.the-variants.{Hn, Ho};
-ghost use Rattle.encode.specs.Encoding.{valueNumbers, positionNumbers, laneNumbers, placementNumbers, placementsNumbers, flagNumber, governingNumbers, limitNumbers, accountBytes, Stored};
+ghost use Rattle.model.specs.declared.State.the-variants.{Reported};
+ghost use Rattle.encode.specs.Encoding.{accountSize, valueNumbers, positionNumbers, laneNumbers, lanesNumbers, placementNumbers, placementsNumbers, flagNumber, governingNumbers, limitNumbers, wordBytes, accountBytes, ReadBack, Put, CentresFit, RowsFit, CountsFit};
+
+// The number of this layout.
+pub const LAYOUT: u32 = 1;
 
 // The bytes of an account.
-pub const SIZE: usize = 560;
+pub const SIZE: usize = 1256;
 
 // The 64 bits of a signed number.
 fn bits_of(v: i64) -> u64
@@ -30,10 +36,11 @@ fn bits_of(v: i64) -> u64
     if v < 0 { !((!v) as u64) } else { v as u64 }
 }
 
-// A number's eight bytes from `at`, lowest first.
-fn put(out: &mut [u8], at: usize, x: u64)
+// Eight bytes, lowest first.
+fn put_bits(out: &mut [u8], at: usize, x: u64) -> usize
     requires { ⌜ at + 8 ≤ length (now out) ⌝ }
-    ensures { λ _. ⌜ Stored (now (out .entry)) at (pos x ∷ []) (now (out .exit)) ⌝ }
+    ensures { λ r. ⌜ r ≡ at + 8 ⌝ }
+    ensures { λ _. ⌜ now (out .exit) ≡ sets (now (out .entry)) at (wordBytes x) ⌝ }
 {
     out[at] = (x % 256) as u8;
     out[at + 1] = (x / 256 % 256) as u8;
@@ -43,19 +50,39 @@ fn put(out: &mut [u8], at: usize, x: u64)
     out[at + 5] = (x / 1099511627776 % 256) as u8;
     out[at + 6] = (x / 281474976710656 % 256) as u8;
     out[at + 7] = (x / 72057594037927936 % 256) as u8;
+    at + 8
 }
 
-// The same of a signed number.
-fn put_signed(out: &mut [u8], at: usize, v: i64)
+fn put_signed(out: &mut [u8], at: usize, v: i64) -> usize
     requires { ⌜ at + 8 ≤ length (now out) ⌝ }
-    ensures { λ _. ⌜ Stored (now (out .entry)) at (v ∷ []) (now (out .exit)) ⌝ }
+    ensures { λ r. ⌜ Put (now (out .entry)) at (v ∷ []) (now (out .exit)) r ⌝ }
 {
-    put(out, at, bits_of(v));
+    put_bits(out, at, bits_of(v))
+}
+
+fn put_count(out: &mut [u8], at: usize, x: u64) -> usize
+    requires { ⌜ at + 8 ≤ length (now out) ⌝ }
+    requires { ⌜ x < 2 ^ 63 ⌝ }
+    ensures { λ r. ⌜ Put (now (out .entry)) at (pos x ∷ []) (now (out .exit)) r ⌝ }
+{
+    put_bits(out, at, x)
+}
+
+// So many zeros.
+fn put_zeros(out: &mut [u8], at: usize, n: usize) -> usize
+    requires { ⌜ at + 8 * n ≤ length (now out) ⌝ }
+    ensures { λ r. ⌜ Put (now (out .entry)) at (replicate n (pos 0)) (now (out .exit)) r ⌝ }
+{
+    let mut end = at;
+    for i in 0..n {
+        end = put_count(out, end, 0);
+    }
+    end
 }
 
 // 0 left, 1 right.
 fn side_number(s: Side) -> u64
-    ensures { λ r. ⌜ r ≡ sideNumber s ⌝ }
+    ensures { λ r. ⌜ (r ≡ sideNumber s) × (r < 2) ⌝ }
 {
     match s {
         Side::Left => 0,
@@ -65,7 +92,7 @@ fn side_number(s: Side) -> u64
 
 // 1 HN raising, 2 HN lowering.
 fn hn_number(s: Sense) -> u64
-    ensures { λ r. ⌜ r ≡ entryNumber (Hn s) ⌝ }
+    ensures { λ r. ⌜ (r ≡ entryNumber (Hn s)) × (r < 5) ⌝ }
 {
     match s {
         Sense::Raising => 1,
@@ -75,7 +102,7 @@ fn hn_number(s: Sense) -> u64
 
 // 3 HO raising, 4 HO lowering.
 fn ho_number(s: Sense) -> u64
-    ensures { λ r. ⌜ r ≡ entryNumber (Ho s) ⌝ }
+    ensures { λ r. ⌜ (r ≡ entryNumber (Ho s)) × (r < 5) ⌝ }
 {
     match s {
         Sense::Raising => 3,
@@ -85,7 +112,7 @@ fn ho_number(s: Sense) -> u64
 
 // 0 for an unloaded lane.
 fn entry_number(e: Entry) -> u64
-    ensures { λ r. ⌜ r ≡ entryNumber e ⌝ }
+    ensures { λ r. ⌜ (r ≡ entryNumber e) × (r < 5) ⌝ }
 {
     match e {
         Entry::Unloaded => 0,
@@ -96,113 +123,135 @@ fn entry_number(e: Entry) -> u64
 
 // 1 for true.
 fn flag_number(b: bool) -> u64
-    ensures { λ r. ⌜ r ≡ flagNumber b ⌝ }
+    ensures { λ r. ⌜ (r ≡ flagNumber b) × (r < 2) ⌝ }
 {
     if b { 1 } else { 0 }
 }
 
 // The two values of a live kind.
-fn put_values(out: &mut [u8], at: usize, t: Traffic)
+fn put_values(out: &mut [u8], at: usize, t: Traffic) -> usize
     requires { ⌜ at + 16 ≤ length (now out) ⌝ }
-    ensures { λ _. ⌜ Stored (now (out .entry)) at (valueNumbers t) (now (out .exit)) ⌝ }
+    ensures { λ r. ⌜ Put (now (out .entry)) at (valueNumbers t) (now (out .exit)) r ⌝ }
 {
     let greatest = t.greatest;
     let least = t.least;
-    put_signed(out, at, greatest.value);
-    put_signed(out, at + 8, least.value);
+    let end = put_signed(out, at, greatest.value);
+    put_signed(out, end, least.value)
 }
 
 // A station and its side.
-fn put_position(out: &mut [u8], at: usize, p: Position)
+fn put_position(out: &mut [u8], at: usize, p: Position) -> usize
     requires { ⌜ at + 16 ≤ length (now out) ⌝ }
-    ensures { λ _. ⌜ Stored (now (out .entry)) at (positionNumbers p) (now (out .exit)) ⌝ }
+    ensures { λ r. ⌜ Put (now (out .entry)) at (positionNumbers p) (now (out .exit)) r ⌝ }
 {
     let side = p.side;
-    put_signed(out, at, p.station);
-    put(out, at + 8, side_number(side));
+    let end = put_signed(out, at, p.station);
+    put_count(out, end, side_number(side))
 }
 
-// A lane's entry and centre.
-fn put_lane(out: &mut [u8], at: usize, l: Lane)
-    requires { ⌜ at + 16 ≤ length (now out) ⌝ }
-    ensures { λ _. ⌜ Stored (now (out .entry)) at (laneNumbers l) (now (out .exit)) ⌝ }
+// A lane's entry and centre, and its reserved factor.
+fn put_lane(out: &mut [u8], at: usize, l: Lane) -> usize
+    requires { ⌜ at + 24 ≤ length (now out) ⌝ }
+    requires { ⌜ l .centre < 2 ^ 63 ⌝ }
+    ensures { λ r. ⌜ Put (now (out .entry)) at (laneNumbers l) (now (out .exit)) r ⌝ }
 {
     let entry = l.entry;
-    put(out, at, entry_number(entry));
-    put(out, at + 8, l.centre as u64);
+    let mut end = put_count(out, at, entry_number(entry));
+    end = put_count(out, end, l.centre as u64);
+    put_count(out, end, 0)
 }
 
-// A lane set and its five lanes.
-fn put_placement(out: &mut [u8], at: usize, p: Placement)
-    requires { ⌜ at + 88 ≤ length (now out) ⌝ }
-    ensures { λ _. ⌜ Stored (now (out .entry)) at (placementNumbers p) (now (out .exit)) ⌝ }
+// The lanes of a placement.
+fn put_lanes(out: &mut [u8], at: usize, p: Placement) -> usize
+    requires { ⌜ at + 120 ≤ length (now out) ⌝ }
+    requires { ⌜ ((i : ℕ) → laneAt p i .centre < 2 ^ 63) ⌝ }
+    ensures { λ r. ⌜ Put (now (out .entry)) at (lanesNumbers p 5) (now (out .exit)) r ⌝ }
 {
-    put(out, at, p.set as u64);
+    let mut end = at;
     for i in 0..5 {
         let lane = p.lanes[i];
-        put_lane(out, at + 8 + 16 * i, lane);
+        end = put_lane(out, end, lane);
     }
+    end
+}
+
+// A lane set, the lanes, and as many unloaded ones.
+fn put_placement(out: &mut [u8], at: usize, p: Placement) -> usize
+    requires { ⌜ at + 248 ≤ length (now out) ⌝ }
+    requires { ⌜ ((i : ℕ) → laneAt p i .centre < 2 ^ 63) ⌝ }
+    ensures { λ r. ⌜ Put (now (out .entry)) at (placementNumbers p) (now (out .exit)) r ⌝ }
+{
+    let mut end = put_count(out, at, p.set as u64);
+    end = put_lanes(out, end, p);
+    put_zeros(out, end, 15)
 }
 
 // The placements of the two values of a live kind.
-fn put_placements(out: &mut [u8], at: usize, t: Traffic)
-    requires { ⌜ at + 176 ≤ length (now out) ⌝ }
-    ensures { λ _. ⌜ Stored (now (out .entry)) at (placementsNumbers t) (now (out .exit)) ⌝ }
+fn put_placements(out: &mut [u8], at: usize, t: Traffic) -> usize
+    requires { ⌜ at + 496 ≤ length (now out) ⌝ }
+    requires { ⌜ CentresFit t ⌝ }
+    ensures { λ r. ⌜ Put (now (out .entry)) at (placementsNumbers t) (now (out .exit)) r ⌝ }
 {
     let greatest = t.greatest;
     let least = t.least;
     let first = greatest.placement;
     let second = least.placement;
-    put_placement(out, at, first);
-    put_placement(out, at + 88, second);
+    let end = put_placement(out, at, first);
+    put_placement(out, end, second)
 }
 
-// A limit state's value, its row, the effects left out, and whether the traffic is.
-fn put_governing(out: &mut [u8], at: usize, g: Governing)
-    requires { ⌜ at + 32 ≤ length (now out) ⌝ }
-    ensures { λ _. ⌜ Stored (now (out .entry)) at (governingNumbers g) (now (out .exit)) ⌝ }
+// A limit state's value, its row, the effects left out, whether the traffic is, and the reserved k.
+fn put_governing(out: &mut [u8], at: usize, g: Governing) -> usize
+    requires { ⌜ at + 40 ≤ length (now out) ⌝ }
+    requires { ⌜ g .row < 2 ^ 63 ⌝ }
+    ensures { λ r. ⌜ Put (now (out .entry)) at (governingNumbers g) (now (out .exit)) r ⌝ }
 {
-    put_signed(out, at, g.value);
-    put(out, at + 8, g.row as u64);
-    put(out, at + 16, g.omitted as u64);
-    put(out, at + 24, flag_number(g.unladen));
+    let mut end = put_signed(out, at, g.value);
+    end = put_count(out, end, g.row as u64);
+    end = put_count(out, end, g.omitted as u64);
+    end = put_count(out, end, flag_number(g.unladen));
+    put_count(out, end, 0)
 }
 
-// Whether a limit state is reported, its greatest and its least.
-fn put_pair(out: &mut [u8], at: usize, reported: u64, greatest: Governing, least: Governing)
-    requires { ⌜ at + 72 ≤ length (now out) ⌝ }
-    ensures { λ _. ⌜ Stored (now (out .entry)) at (pos reported ∷ governingNumbers greatest ++ governingNumbers least) (now (out .exit)) ⌝ }
+// A reported limit state: 1, its greatest and its least.
+fn put_reported(out: &mut [u8], at: usize, greatest: Governing, least: Governing) -> usize
+    requires { ⌜ at + 88 ≤ length (now out) ⌝ }
+    requires { ⌜ (greatest .row < 2 ^ 63) × (least .row < 2 ^ 63) ⌝ }
+    ensures { λ r. ⌜ Put (now (out .entry)) at (limitNumbers (Reported greatest least)) (now (out .exit)) r ⌝ }
 {
-    put(out, at, reported);
-    put_governing(out, at + 8, greatest);
-    put_governing(out, at + 40, least);
+    let mut end = put_count(out, at, 1);
+    end = put_governing(out, end, greatest);
+    put_governing(out, end, least)
 }
 
 // A limit state: zeros for none.
-fn put_state(out: &mut [u8], at: usize, s: State)
-    requires { ⌜ at + 72 ≤ length (now out) ⌝ }
-    ensures { λ _. ⌜ Stored (now (out .entry)) at (limitNumbers s) (now (out .exit)) ⌝ }
+fn put_state(out: &mut [u8], at: usize, s: State) -> usize
+    requires { ⌜ at + 88 ≤ length (now out) ⌝ }
+    requires { ⌜ RowsFit s ⌝ }
+    ensures { λ r. ⌜ Put (now (out .entry)) at (limitNumbers s) (now (out .exit)) r ⌝ }
 {
     match s {
-        State::Absent => {
-            let none = Governing {
-                value: 0,
-                row: 0,
-                omitted: 0,
-                unladen: false,
-            };
-            put_pair(out, at, 0, none, none);
-        }
-        State::Reported { greatest, least } => {
-            put_pair(out, at, 1, greatest, least);
-        }
+        State::Absent => put_zeros(out, at, 11),
+        State::Reported { greatest, least } => put_reported(out, at, greatest, least),
     }
+}
+
+// The lanes of the carriageway, and what is reserved.
+fn put_counts(out: &mut [u8], at: usize, lanes: usize) -> usize
+    requires { ⌜ at + 24 ≤ length (now out) ⌝ }
+    requires { ⌜ lanes < 2 ^ 63 ⌝ }
+    ensures { λ r. ⌜ Put (now (out .entry)) at (pos lanes ∷ pos 0 ∷ pos 0 ∷ []) (now (out .exit)) r ⌝ }
+{
+    let end = put_count(out, at, lanes as u64);
+    put_zeros(out, end, 2)
 }
 
 // The bytes of an account at the front of a buffer; the rest keeps its contents.
 pub fn write(out: &mut [u8], a: Account)
-    requires { ⌜ 560 ≤ length (now out) ⌝ }
-    ensures { λ _. ⌜ now (out .exit) ≡ accountBytes a ++ drop 560 (now (out .entry)) ⌝ }
+    requires { ⌜ accountSize ≤ length (now out) ⌝ }
+    requires { ⌜ CountsFit a ⌝ }
+    ensures { λ _. ⌜ now (out .exit) ≡ accountBytes a ++ drop accountSize (now (out .entry)) ⌝ }
+    ensures { λ _. ⌜ ReadBack (now (out .exit)) a ⌝ }
 {
     let normal = a.normal;
     let overload = a.overload;
@@ -210,14 +259,15 @@ pub fn write(out: &mut [u8], a: Account)
     let lowering = a.lowering;
     let service = a.service;
     let ultimate = a.ultimate;
-    put_values(out, 0, normal);
-    put_values(out, 16, overload);
-    put_position(out, 32, raising);
-    put_position(out, 48, lowering);
-    put_placements(out, 64, normal);
-    put_placements(out, 240, overload);
-    put_state(out, 416, service);
-    put_state(out, 488, ultimate);
+    let mut end = put_values(out, 0, normal);
+    end = put_values(out, end, overload);
+    end = put_position(out, end, raising);
+    end = put_position(out, end, lowering);
+    end = put_placements(out, end, normal);
+    end = put_placements(out, end, overload);
+    end = put_state(out, end, service);
+    end = put_state(out, end, ultimate);
+    put_counts(out, end, a.lanes);
 }
 
 // Every byte of a buffer 0.

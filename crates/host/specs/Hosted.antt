@@ -5,7 +5,7 @@ use mathlib.Core.List.{List, _++_}
 use lib.ListN.{length, drop, replicate}
 use Rattle.model.specs.Answered.{Answered}
 use Rattle.model.specs.declared.Answer.{Answer}
-use Rattle.encode.specs.Encoding.{accountBytes}
+use Rattle.encode.specs.Encoding.{accountSize, accountBytes, ReadBack}
 
 -- a refusal's number and place as one number; 0 is acceptance
 abbrev pub packed : (number place : ℕ) → ℕ
@@ -13,8 +13,9 @@ packed number place = number + 256 * place
 
 -- the call's job, its patch and account buffers before, its result, and the buffers after
 pub data Hosted (job patch account : List ℕ) (result : ℕ) (patchAfter accountAfter : List ℕ) : Type 0 where
-  -- an account buffer under 560 bytes: refusal 2 at place 0, the buffer cleared, the patch buffer as before
-  short : length account < 560 → result ≡ packed 2 0 → patchAfter ≡ patch → accountAfter ≡ replicate (length account) 0 → Hosted job patch account result patchAfter accountAfter
-  -- else an answer as the kernel gives it; its account in the first 560 bytes, those past them as before
-  answered : 560 ≤ length account → (answer : Answer) → Answered job patch answer patchAfter → result ≡ packed (answer .refusal) (answer .place) → accountAfter ≡ accountBytes (answer .account) ++ drop 560 account →
+  -- an account buffer under an account's size: refusal 2 at place 0, the buffer cleared, the patch buffer as before
+  short : length account < accountSize → result ≡ packed 2 0 → patchAfter ≡ patch → accountAfter ≡ replicate (length account) 0 → Hosted job patch account result patchAfter accountAfter
+  -- else an answer as the kernel gives it; its account's bytes in front, those past them as before; and the host reads the account's numbers
+  answered : accountSize ≤ length account → (answer : Answer) → Answered job patch answer patchAfter → result ≡ packed (answer .refusal) (answer .place) →
+      accountAfter ≡ accountBytes (answer .account) ++ drop accountSize account → ReadBack accountAfter (answer .account) →
       Hosted job patch account result patchAfter accountAfter

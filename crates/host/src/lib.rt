@@ -1,12 +1,22 @@
-// The entry for hosts written in C; include/hnho.h declares it.
+// The entries for hosts written in C; include/hnho.h declares them.
+ghost use mathlib.Core.Path.{_≡_};
+ghost use Rattle.encode.specs.Encoding.{layout};
 ghost use Rattle.host.specs.Hosted.{Hosted};
+
+// The number of the account's layout, for a host to compare with its header's.
+#[no_mangle]
+pub extern "C" fn hnho_layout() -> u32
+    ensures { λ r. ⌜ r ≡ layout ⌝ }
+{
+    encode::LAYOUT
+}
 
 // Solves a job, writes the account's bytes and packs refusal and place into one number, 0 for acceptance. An account buffer under an account's size is refused with 2 at place 0, its bytes cleared.
 #[no_mangle]
 pub extern "C" fn hnho_solve(job: &[u8], patch: &mut [u8], account: &mut [u8]) -> u64
     ensures { λ r. ⌜ Hosted (now (job .entry)) (now (patch .entry)) (now (account .entry)) r (now (patch .exit)) (now (account .exit)) ⌝ }
 {
-    if account.len() < 560 {
+    if account.len() < encode::SIZE {
         encode::clear(account);
         return 2;
     }

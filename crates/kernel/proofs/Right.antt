@@ -59,6 +59,7 @@ account-right job signed g-pos rest a p = record {
   lowering = p .lowering;
   service = state service (a .service) (p .service);
   ultimate = state ultimate (a .ultimate) (p .ultimate);
+  laneCount = p .laneCount;
 }
   where
     positions : (sense : Sense) → PositionRight (job .line) sense (positionOf a sense)

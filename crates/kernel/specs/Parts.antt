@@ -53,10 +53,11 @@ pub record TrafficFound (job : Job) (live : Live) (t : Traffic) : Type 0 where
   pub nearGreatest : Within 1000000000000 (t .greatest .value)
   pub nearLeast : Within 1000000000000 (t .least .value)
 
--- both live kinds'
+-- both live kinds', and the number of lanes
 pub record ValuesRight (job : Job) (v : TrafficValues) : Type 0 where
   pub normal : TrafficFound job normal (v .normal)
   pub overload : TrafficFound job overload (v .overload)
+  pub laneCount : v .lanes ≡ lanes job
 
 -- a question's reported traffic values
 abbrev pub reportedValues : Question → Account → Pair
@@ -76,3 +77,4 @@ pub record PartsRight (job : Job) (a : Account) : Type 0 where
   pub lowering : PositionRight (job .line) Lowering (a .lowering)
   pub service : StateOf job a service (a .service)
   pub ultimate : StateOf job a ultimate (a .ultimate)
+  pub laneCount : a .lanes ≡ lanes job

@@ -77,6 +77,7 @@ fn refused(number: u32, place: usize) -> Answer
         lowering: position,
         service: absent,
         ultimate: absent,
+        lanes: 0,
     };
     Answer {
         refusal: number,
@@ -106,10 +107,11 @@ fn effects(axle: i64, raising: Sought, lowering: Sought) -> Effects
     }
 }
 
-// The traffic values of both live kinds.
+// The traffic values of both live kinds, and the number of lanes.
 pub struct TrafficValues {
     pub normal: Traffic,
     pub overload: Traffic,
+    pub lanes: usize,
 }
 
 // By what is sought of the line.
@@ -136,7 +138,11 @@ fn values(job: &[u8], head: Header, raising: Sought, lowering: Sought) -> Traffi
         greatest: og,
         least: ol,
     };
-    TrafficValues { normal, overload }
+    TrafficValues {
+        normal,
+        overload,
+        lanes: n,
+    }
 }
 
 // A limit state, 1 service or 2 ultimate, by the traffic values.
@@ -193,6 +199,7 @@ fn account(job: &[u8], head: Header) -> Account
         lowering: down,
         service,
         ultimate,
+        lanes: v.lanes,
     }
 }
 

@@ -1,5 +1,4 @@
-use mathlib.Core.Path.{refl}
-use Rattle.encode.proofs.Stores.{and-then, natural}
+use Rattle.encode.proofs.Puts.{and-then, natural}
 use borrow.Author.Needs.{needs}
 use Rattle.encode.proofs.put_lane.Statement.{statement}
 use Rattle.encode.proofs.put_lane.Tie as tie
@@ -7,25 +6,32 @@ use Rattle.encode.proofs.put_lane.Tie as tie
 entry-number-requires : tie.Need-entry-number-requires
 entry-number-requires c κs = search needs
 
-put-requires : tie.Need-put-requires
-put-requires c κs = search needs
+put-count-requires : tie.Need-put-count-requires
+put-count-requires c κs = search needs
 
-add-put : tie.Need-add-put
-add-put c = search needs
+put-count-requires-2 : tie.Need-put-count-requires-2
+put-count-requires-2 c κs = search needs
 
-put-requires-2 : tie.Need-put-requires-2
-put-requires-2 c κs = search needs
+put-count-requires-3 : tie.Need-put-count-requires-3
+put-count-requires-3 c κs = search needs
 
 same-length : tie.Need-same-length
 same-length c = search needs
 
 returns : tie.Need-returns
 returns c =
-    let p2 = c .before .before in
+    let p3 = c .before .before in
+    let p2 = p3 .before .before .before .before in
     let p1 = p2 .before .before .before .before in
-    and-then (natural (p1 .before .entry-number .ensures) (p1 .put .ensures)) refl (p2 .put2 .ensures)
+    and-then (and-then (natural (p1 .before .entry-number .ensures .0) (p1 .put-count .ensures)) (p2 .put-count2 .ensures)) (p3 .put-count3 .ensures)
 
 pub put-lane-spec : {M : Type 1} → statement M
 put-lane-spec =
     tie.close
-    (tie.spec entry-number-requires put-requires add-put put-requires-2 same-length returns)
+    (tie.spec
+    entry-number-requires
+    put-count-requires
+    put-count-requires-2
+    put-count-requires-3
+    same-length
+    returns)

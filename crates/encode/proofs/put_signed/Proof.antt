@@ -2,8 +2,7 @@ use mathlib.Core.Path.{_∙_, ap}
 use mir.Syntax.{w64}
 use mir.Val.{ofZ}
 use mir.Facts.{toZ-ofZ}
-use Rattle.encode.specs.Encoding.{bytesOf}
-use Rattle.encode.proofs.Stores.{natural}
+use Rattle.encode.proofs.Puts.{one}
 use borrow.Author.Needs.{needs}
 use Rattle.encode.proofs.put_signed.Statement.{statement}
 use Rattle.encode.proofs.put_signed.Tie as tie
@@ -11,18 +10,18 @@ use Rattle.encode.proofs.put_signed.Tie as tie
 bits-of-requires : tie.Need-bits-of-requires
 bits-of-requires c κs = search needs
 
-put-requires : tie.Need-put-requires
-put-requires c κs = search needs
+put-bits-requires : tie.Need-put-bits-requires
+put-bits-requires c κs = search needs
 
 same-length : tie.Need-same-length
 same-length c = search needs
 
 returns : tie.Need-returns
-unfolding bytesOf
 returns c =
     let p = c .before .before in
     let s = p .before .before .before .before in
-    record { is = natural (p .before .bits-of .ensures ∙ ap (ofZ w64) (toZ-ofZ (s .fits .v))) (p .put .ensures) .is }
+    let bits = p .before .bits-of .ensures ∙ ap (ofZ w64) (toZ-ofZ (s .fits .v)) in
+    one (s .args .v) (s .fits .v) bits (p .put-bits .ensures .0) (p .put-bits .ensures .1)
 
 pub put-signed-spec : {M : Type 1} → statement M
-put-signed-spec = tie.close (tie.spec bits-of-requires put-requires same-length returns)
+put-signed-spec = tie.close (tie.spec bits-of-requires put-bits-requires same-length returns)

@@ -1,6 +1,7 @@
-use mathlib.Core.Path.{sym, ap}
-use Rattle.encode.specs.Encoding.{limitNumbers}
-use Rattle.encode.proofs.Stores.{retold}
+use mathlib.Core.Path.{sym, ap, subst}
+use native.Mathlib.Omega.{arith}
+use Rattle.encode.specs.Encoding.{limitNumbers, RowsFit}
+use Rattle.encode.proofs.Puts.{retold}
 use borrow.Author.Needs.{needs}
 use Rattle.encode.proofs.put_state.Statement.{statement}
 use Rattle.encode.proofs.put_state.Tie as tie
@@ -8,14 +9,17 @@ use Rattle.encode.proofs.put_state.Tie as tie
 enum-told : tie.Need-enum-told
 enum-told c = search needs
 
-put-pair-requires : tie.Need-put-pair-requires
-put-pair-requires c κs = search needs
+put-zeros-requires : tie.Need-put-zeros-requires
+put-zeros-requires c κs = search needs
 
 enum-known-s : tie.Need-enum-known-s
 enum-known-s c = search needs
 
-put-pair-requires-2 : tie.Need-put-pair-requires-2
-put-pair-requires-2 c κs = search needs
+put-reported-requires : tie.Need-put-reported-requires
+put-reported-requires c κs =
+    let s = c .before .before .before .before .before in
+    let rows = subst RowsFit (c .before .before .s .given .1) (s .pre .1) in
+    (omega arith, rows)
 
 same-length : tie.Need-same-length
 same-length c = search needs
@@ -23,7 +27,7 @@ same-length c = search needs
 returns : tie.Need-returns
 returns c =
     let p = c .before .before in
-    retold (sym (ap limitNumbers (p .before .before .enum-told .given .1))) (p .put-pair .ensures)
+    retold (sym (ap limitNumbers (p .before .before .enum-told .given .1))) (p .put-zeros .ensures)
 
 same-length-2 : tie.Need-same-length-2
 same-length-2 c = search needs
@@ -31,16 +35,16 @@ same-length-2 c = search needs
 returns-2 : tie.Need-returns-2
 returns-2 c =
     let p = c .before .before in
-    retold (sym (ap limitNumbers (p .before .before .before .s .given .1))) (p .put-pair2 .ensures)
+    retold (sym (ap limitNumbers (p .before .before .before .s .given .1))) (p .put-reported .ensures)
 
 pub put-state-spec : {M : Type 1} → statement M
 put-state-spec =
     tie.close
     (tie.spec
     enum-told
-    put-pair-requires
+    put-zeros-requires
     enum-known-s
-    put-pair-requires-2
+    put-reported-requires
     same-length
     returns
     same-length-2

@@ -1,16 +1,12 @@
-use mathlib.Core.Path.{refl}
 use mir.Syntax.{w64}
 use mir.Val.{SFits}
-use Rattle.encode.proofs.Stores.{and-then, signed}
+use Rattle.encode.proofs.Puts.{and-then, signed}
 use borrow.Author.Needs.{needs}
 use Rattle.encode.proofs.put_values.Statement.{statement}
 use Rattle.encode.proofs.put_values.Tie as tie
 
 put-signed-requires : tie.Need-put-signed-requires
 put-signed-requires c κs = search needs
-
-add-put-signed : tie.Need-add-put-signed
-add-put-signed c = search needs
 
 put-signed-requires-2 : tie.Need-put-signed-requires-2
 put-signed-requires-2 c κs = search needs
@@ -22,12 +18,11 @@ returns : tie.Need-returns
 returns c =
     let p2 = c .before .before in
     let p1 = p2 .before .before .before .before .before in
-    let a = p1 .before .before .before .before .before .before .args in
-    let g : SFits w64 (a .t .greatest .value) = record { sfits = p1 .before .struct-told .given .0 .1 } in
-    let l : SFits w64 (a .t .least .value) = record { sfits = p2 .before .struct-told2 .given .0 .1 } in
-    and-then (signed g (p1 .put-signed .ensures)) refl (signed l (p2 .put-signed2 .ensures))
+    let t = p1 .before .before .before .before .before .before .args .t in
+    let g : SFits w64 (t .greatest .value) = record { sfits = p1 .before .struct-told .given .0 .1 } in
+    let l : SFits w64 (t .least .value) = record { sfits = p2 .before .struct-told2 .given .0 .1 } in
+    and-then (signed g (p1 .put-signed .ensures)) (signed l (p2 .put-signed2 .ensures))
 
 pub put-values-spec : {M : Type 1} → statement M
 put-values-spec =
-    tie.close
-    (tie.spec put-signed-requires add-put-signed put-signed-requires-2 same-length returns)
+    tie.close (tie.spec put-signed-requires put-signed-requires-2 same-length returns)

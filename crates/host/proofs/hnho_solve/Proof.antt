@@ -3,6 +3,7 @@ use native.Mathlib.Omega.{arith}
 use borrow.Author.Needs.{needs}
 use Rattle.host.specs.Hosted.{short, answered}
 use Rattle.host.proofs.Places.{answer-small}
+use Rattle.host.proofs.Counts.{counts-fit}
 use Rattle.host.proofs.hnho_solve.Statement.{statement}
 use Rattle.host.proofs.hnho_solve.Tie as tie
 
@@ -19,7 +20,9 @@ solve-requires : tie.Need-solve-requires
 solve-requires c κs = search needs
 
 write-requires : tie.Need-write-requires
-write-requires c κs = search needs
+write-requires c κs =
+    let a = c .before .before .before .before .solve in
+    (omega arith, counts-fit (a .ensures))
 
 cast-result : tie.Need-cast-result
 cast-result c = search needs
@@ -39,7 +42,7 @@ same-length-3 c = search needs
 returns-2 : tie.Need-returns-2
 returns-2 c =
     let a = c .before .before .before .before .before .before .before .before .solve in
-    answered (omega (arith, c .before .before .before .before .before .before .before .before .before .before .if1 .left)) (a .result) (a .ensures) refl (c .before .before .before .write .ensures)
+    answered (omega (arith, c .before .before .before .before .before .before .before .before .before .before .if1 .left)) (a .result) (a .ensures) refl (c .before .before .before .write .ensures .0) (c .before .before .before .write .ensures .1)
 
 pub hnho-solve-spec : {M : Type 1} → statement M
 hnho-solve-spec =

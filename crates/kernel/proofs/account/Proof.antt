@@ -71,6 +71,7 @@ returns c =
       lowering = c .before .before .before .before .before .before .before .before .before .before .before .before .before .before .before .before .before .sought .ensures Lowering .position;
       service = handed b x v service (c .before .before .before .limit-state .result) (c .before .before .before .limit-state .ensures);
       ultimate = handed b x v ultimate (c .before .before .limit-state2 .result) (c .before .before .limit-state2 .ensures);
+      laneCount = v .laneCount;
     }
 
 pub account-spec : {M : Type 1} → statement M

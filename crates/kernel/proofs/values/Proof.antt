@@ -87,6 +87,7 @@ returns c =
         nearGreatest = og .ensures .0;
         nearLeast = ol .ensures .0;
       };
+      laneCount = over .lanes;
     }
 
 pub values-spec : {M : Type 1} → statement M

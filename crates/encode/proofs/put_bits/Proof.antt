@@ -5,10 +5,9 @@ use native.Mathlib.Numerals.{unary-clauses}
 use native.Mathlib.Omega.{arith}
 use lib.ListN.{length-set, set}
 use lib.Seq.{sets}
-use Rattle.encode.specs.Encoding.{bytesOf}
 use borrow.Author.Needs.{needs}
-use Rattle.encode.proofs.put.Statement.{statement}
-use Rattle.encode.proofs.put.Tie as tie
+use Rattle.encode.proofs.put_bits.Statement.{statement}
+use Rattle.encode.proofs.put_bits.Tie as tie
 
 -- eight stores one after the other
 eight : (s : List ℕ) (at a b c d e f g h : ℕ) →
@@ -85,15 +84,17 @@ add-out-7 c = search needs
 slice-write-out-8 : tie.Need-slice-write-out-8
 slice-write-out-8 c = simp length-set (omega arith)
 
+add-result : tie.Need-add-result
+add-result c = search needs
+
 same-length : tie.Need-same-length
 same-length c = search needs
 
 returns : tie.Need-returns
-unfolding bytesOf
-returns c = let a = c .args in record { is = eight (a .out .now) (a .at) _ _ _ _ _ _ _ _ }
+returns c = let a = c .args in (refl, eight (a .out .now) (a .at) _ _ _ _ _ _ _ _)
 
-pub put-spec : {M : Type 1} → statement M
-put-spec =
+pub put-bits-spec : {M : Type 1} → statement M
+put-bits-spec =
     tie.close
     (tie.spec
     cast-out
@@ -119,5 +120,6 @@ put-spec =
     cast-out-8
     add-out-7
     slice-write-out-8
+    add-result
     same-length
     returns)

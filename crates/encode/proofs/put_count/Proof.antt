@@ -1,0 +1,21 @@
+use mathlib.Core.Path.{refl}
+use lib.IntN.{pos}
+use Rattle.encode.proofs.Puts.{one}
+use borrow.Author.Needs.{needs}
+use Rattle.encode.proofs.put_count.Statement.{statement}
+use Rattle.encode.proofs.put_count.Tie as tie
+
+put-bits-requires : tie.Need-put-bits-requires
+put-bits-requires c κs = search needs
+
+same-length : tie.Need-same-length
+same-length c = search needs
+
+returns : tie.Need-returns
+returns c =
+    let p = c .before .before in
+    let s = p .before .before .before in
+    one (pos (s .args .x)) (record { sfits = s .pre .1 }) refl (p .put-bits .ensures .0) (p .put-bits .ensures .1)
+
+pub put-count-spec : {M : Type 1} → statement M
+put-count-spec = tie.close (tie.spec put-bits-requires same-length returns)

@@ -1,0 +1,22 @@
+use Rattle.encode.proofs.Puts.{and-then}
+use borrow.Author.Needs.{needs}
+use Rattle.encode.proofs.put_counts.Statement.{statement}
+use Rattle.encode.proofs.put_counts.Tie as tie
+
+put-count-requires : tie.Need-put-count-requires
+put-count-requires c κs = search needs
+
+put-zeros-requires : tie.Need-put-zeros-requires
+put-zeros-requires c κs = search needs
+
+same-length : tie.Need-same-length
+same-length c = search needs
+
+returns : tie.Need-returns
+returns c =
+    let p2 = c .before .before in
+    let p1 = p2 .before .before .before .before in
+    and-then (p1 .put-count .ensures) (p2 .put-zeros .ensures)
+
+pub put-counts-spec : {M : Type 1} → statement M
+put-counts-spec = tie.close (tie.spec put-count-requires put-zeros-requires same-length returns)

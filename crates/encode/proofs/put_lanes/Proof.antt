@@ -1,0 +1,80 @@
+use mathlib.Core.Path.{_≡_, refl, sym, ap, subst, _∙_}
+use Prim.Native.Nat.{ℕ, zero, suc, _+_, _*_, _-_, _^_, _≤_, _<_}
+use native.Mathlib.Omega.{arith}
+use native.Mathlib.Numerals.{add-one}
+use lib.ListN.{length, length-append}
+use borrow.Author.Needs.{needs}
+use Rattle.model.specs.declared.Lane.{Lane}
+use Rattle.model.specs.declared.Placement.{Placement}
+use Rattle.model.specs.Answered.{laneAt}
+use Rattle.encode.specs.Encoding.{laneNumbers, lanesNumbers, Put}
+use Rattle.encode.proofs.Puts.{nothing, and-then, kept, retold}
+use Rattle.encode.proofs.put_lanes.Statement.{statement}
+use Rattle.encode.proofs.put_lanes.Tie as tie
+
+abbrev Inv-loop : tie.InvT-loop
+Inv-loop out₀ at p end₀ i₀ out end i = (i ≤ 5) × Put out₀ at (lanesNumbers p i) out end
+
+abbrev μ-loop : tie.MeasureT-loop
+μ-loop out₀ at p end₀ i₀ out end i = 5 - i
+
+-- three numbers a lane
+three-a-lane : (p : Placement) (n : ℕ) → length (lanesNumbers p n) ≡ 3 * n
+three-a-lane p zero = refl
+three-a-lane p (suc n) = let e = three-a-lane p n in let f = length-append (lanesNumbers p n) (laneNumbers (laneAt p n)) in omega arith
+
+loop-holds : tie.Need-loop-holds Inv-loop μ-loop
+loop-holds c = (omega arith, nothing _)
+
+mul-lane : tie.Need-mul-lane Inv-loop μ-loop
+mul-lane c = omega arith
+
+element-copy-out-lane : tie.Need-element-copy-out-lane Inv-loop μ-loop
+element-copy-out-lane c = search needs
+
+put-lane-requires : tie.Need-put-lane-requires Inv-loop μ-loop
+put-lane-requires c κs =
+    let l = c .before .before .before in
+    let s = l .before .before in
+    let e = kept (l .loop .inv .1) in
+    let n = three-a-lane (s .args .t3) (l .loop .i) in
+    (omega (arith, l .loop .inv .1 .ends), s .pre .1 (l .loop .i))
+
+add-i : tie.Need-add-i Inv-loop μ-loop
+add-i c = omega arith
+
+loop-less : tie.Need-loop-less Inv-loop μ-loop
+loop-less c = omega arith
+
+loop-again : tie.Need-loop-again Inv-loop μ-loop
+loop-again c =
+    let p = c .before .before in
+    let l = p .before .before .before .before .loop in
+    let s = p .before .before .before .before .before .before in
+    (omega arith, retold (sym (ap (lanesNumbers (s .args .t3)) (add-one (l .i)))) (and-then (l .inv .1) (p .put-lane .ensures)))
+
+same-length : tie.Need-same-length Inv-loop μ-loop
+same-length c = kept (c .before .loop .inv .1)
+
+returns : tie.Need-returns Inv-loop μ-loop
+returns c =
+    let l = c .before .loop in
+    let a = c .before .before .before .args in
+    let e : l .i ≡ 5 = omega arith in
+    retold (ap (lanesNumbers (a .t3)) e) (l .inv .1)
+
+pub put-lanes-spec : {M : Type 1} → statement M
+put-lanes-spec =
+    tie.close
+    (tie.spec
+    Inv-loop
+    μ-loop
+    loop-holds
+    mul-lane
+    element-copy-out-lane
+    put-lane-requires
+    add-i
+    loop-less
+    loop-again
+    same-length
+    returns)

@@ -1,0 +1,33 @@
+use Rattle.encode.proofs.Puts.{and-then}
+use borrow.Author.Needs.{needs}
+use Rattle.encode.proofs.put_reported.Statement.{statement}
+use Rattle.encode.proofs.put_reported.Tie as tie
+
+put-count-requires : tie.Need-put-count-requires
+put-count-requires c κs = search needs
+
+put-governing-requires : tie.Need-put-governing-requires
+put-governing-requires c κs = search needs
+
+put-governing-requires-2 : tie.Need-put-governing-requires-2
+put-governing-requires-2 c κs = search needs
+
+same-length : tie.Need-same-length
+same-length c = search needs
+
+returns : tie.Need-returns
+returns c =
+    let p3 = c .before .before in
+    let p2 = p3 .before .before .before .before in
+    let p1 = p2 .before .before .before .before in
+    and-then (and-then (p1 .put-count .ensures) (p2 .put-governing .ensures)) (p3 .put-governing2 .ensures)
+
+pub put-reported-spec : {M : Type 1} → statement M
+put-reported-spec =
+    tie.close
+    (tie.spec
+    put-count-requires
+    put-governing-requires
+    put-governing-requires-2
+    same-length
+    returns)

@@ -1,0 +1,88 @@
+-- The counts of an answer's account are small: a centre lies on the carriageway, a row is one of the job's, and there are at most five lanes.
+use mathlib.Core.Path.{_≡_, refl, sym, ap, subst}
+use mathlib.Core.List.{List}
+use Prim.Native.Nat.{ℕ, zero, suc, _+_, _*_, _^_, _≤_, _<_}
+use native.Mathlib.Nat.{mul-le-mul, le-of-mul-le-mul-left}
+use native.Mathlib.Omega.{arith}
+use lib.Dec.{ltb}
+use borrow.Author.Tests.{ltb-true, ltb-false}
+use Rattle.exact.specs.declared.Question.{Question}
+use Rattle.exact.proofs.Bridge.{by-test}
+use Rattle.model.specs.Job.{Job, Limit, Live}
+use Rattle.model.specs.Decode.{decode}
+use Rattle.model.specs.Lanes.{CentreFits, laneEdge}
+use Rattle.model.specs.Line.{HN, HO}
+use Rattle.model.specs.Traffic.{lanes}
+use Rattle.model.specs.Answered.{Answered, refused, accepted, refusalAnswer, zeroTraffic, laneAt, reported, reportedElement, reportedLoad, TrafficRight, StateRight}
+use Rattle.model.specs.declared.Answer.{Answer}
+use Rattle.model.specs.declared.Account.{Account}
+use Rattle.model.specs.declared.Entry.{Entry}
+use Rattle.model.specs.declared.Entry.the-variants.{Unloaded, Hn, Ho}
+use Rattle.model.specs.declared.Extreme.{Extreme}
+use Rattle.model.specs.declared.State.{State}
+use Rattle.model.specs.declared.State.the-variants.{Absent, Reported}
+use Rattle.model.proofs.Accepted.{clear, header-fits}
+use Rattle.model.proofs.Lanes.{lane-count}
+use Rattle.encode.specs.Encoding.{CentresFit, RowsFit, CountsFit}
+
+-- the lanes of a refusal's account
+zero-centres : CentresFit zeroTraffic
+zero-centres zero = (omega arith, omega arith)
+zero-centres (suc zero) = (omega arith, omega arith)
+zero-centres (suc (suc zero)) = (omega arith, omega arith)
+zero-centres (suc (suc (suc zero))) = (omega arith, omega arith)
+zero-centres (suc (suc (suc (suc zero)))) = (omega arith, omega arith)
+zero-centres (suc (suc (suc (suc (suc i))))) = (omega arith, omega arith)
+
+module _ (job : Job) (patch : List ℕ) (a : Account) (narrow : job .deck .width ≤ 2079) (few : job .rows ≤ 32) where
+  -- a centre that keeps its distance from its lane's edges is on the carriageway
+  on-deck : (i centre : ℕ) → i < lanes job → CentreFits (job .deck) i (lanes job) centre → centre < 2 ^ 63
+  on-deck i centre h fits =
+      let n = lane-count (job .deck .width) in
+      let inside : lanes job * centre ≤ lanes job * laneEdge (job .deck) (suc i) = omega (arith, fits .fromRight) in
+      let last : suc i ≤ 5 = omega arith in
+      let edge : laneEdge (job .deck) (suc i) ≤ 5 * 2079 = mul-le-mul last narrow in
+      omega (arith, le-of-mul-le-mul-left inside (n .0))
+
+  centre-small : {q : Question} {live : Live} (x : Extreme) → TrafficRight job patch a q live x → (i : ℕ) → laneAt (x .placement) i .centre < 2 ^ 63
+  unfolding reported
+  centre-small x r i =
+      by-test (ltb i (lanes job)) (λ t. centre < 2 ^ 63) (λ t. loaded (ltb-true i (lanes job) t) entry refl) (λ f. idle (r .onDeck i (ltb-false i (lanes job) f)))
+    where
+      entry : Entry
+      entry = laneAt (x .placement) i .entry
+
+      centre : ℕ
+      centre = laneAt (x .placement) i .centre
+
+      idle : entry ≡ Unloaded → centre < 2 ^ 63
+      idle e = omega (arith, r .idle i e)
+
+      loaded : i < lanes job → (e : Entry) → entry ≡ e → centre < 2 ^ 63
+      loaded h Unloaded e = idle e
+      loaded h (Hn sense) e = on-deck i centre h (r .lawful .centres i (reportedElement job patch a HN sense centre) h (ap (λ (y : Entry). reportedLoad job patch a y centre) e))
+      loaded h (Ho sense) e = on-deck i centre h (r .lawful .centres i (reportedElement job patch a HO sense centre) h (ap (λ (y : Entry). reportedLoad job patch a y centre) e))
+
+  rows-fit : (limit : Limit) (s : State) → StateRight job patch a limit s → RowsFit s
+  rows-fit limit Absent r = tt
+  rows-fit limit (Reported greatest least) r = (omega (arith, r .0 .rowOf .last), omega (arith, r .1 .rowOf .last))
+
+pub counts-fit : {b before after : List ℕ} {x : Answer} → Answered b before x after → CountsFit (x .account)
+unfolding decode
+counts-fit (refused r v u p) =
+    subst (λ (y : Answer). CountsFit (y .account)) (sym u) (record { normal = zero-centres; overload = zero-centres; service = tt; ultimate = tt; lanes = omega arith })
+counts-fit {b} {before} {after} {x} (accepted v r) =
+    let header = header-fits b (clear b _ v .c2) in
+    let a = x .account in
+    let right = r .account in
+    let n = lane-count (decode b .deck .width) in
+    record {
+      normal = λ i. (small (a .normal .greatest) (right .normalGreatest) i, small (a .normal .least) (right .normalLeast) i);
+      overload = λ i. (small (a .overload .greatest) (right .overloadGreatest) i, small (a .overload .least) (right .overloadLeast) i);
+      service = rows-fit (decode b) after a (header .wide .most) (header .rows .most) _ (a .service) (right .service);
+      ultimate = rows-fit (decode b) after a (header .wide .most) (header .rows .most) _ (a .ultimate) (right .ultimate);
+      lanes = omega (arith, right .laneCount);
+    }
+  where
+    small : {q : Question} {live : Live} (y : Extreme) → TrafficRight (decode b) after (x .account) q live y → (i : ℕ) → laneAt (y .placement) i .centre < 2 ^ 63
+    small y t i = centre-small (decode b) after (x .account) (header-fits b (clear b _ v .c2) .wide .most) (header-fits b (clear b _ v .c2) .rows .most) y t i
