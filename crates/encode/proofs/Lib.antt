@@ -1,2 +1,2 @@
-pub mod Puts
+pub mod Stores
 pub mod Reading

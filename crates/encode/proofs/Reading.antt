@@ -13,7 +13,7 @@ use Rattle.model.specs.declared.State.{State}
 use Rattle.model.specs.declared.State.the-variants.{Absent, Reported}
 use Rattle.model.specs.declared.Account.{Account}
 use Rattle.encode.specs.Encoding.{accountCount, accountSize, limitNumbers, countNumbers, accountNumbers, numberBytes, bytesOf, accountBytes, numberOf, ReadBack, AllFit}
-use Rattle.encode.proofs.Puts.{bytes-length}
+use Rattle.encode.proofs.Stores.{bytes-length}
 
 pub limit-length : (s : State) → length (limitNumbers s) ≡ 11
 limit-length Absent = refl

@@ -118,7 +118,7 @@ AllFit [] = Unit {0}
 AllFit (z ∷ zs) = SFits w64 z × AllFit zs
 
 -- a buffer before and after the bytes of numbers were put from `at` to `end`
-pub record Put (before : List ℕ) (at : ℕ) (numbers : List ℤ) (after : List ℕ) (end : ℕ) : Type 0 where
+pub record Stored (before : List ℕ) (at : ℕ) (numbers : List ℤ) (after : List ℕ) (end : ℕ) : Type 0 where
   pub ends : end ≡ at + 8 * length numbers
   pub is : after ≡ sets before at (bytesOf numbers)
   pub fit : AllFit numbers

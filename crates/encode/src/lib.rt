@@ -21,7 +21,7 @@ ghost use Rattle.model.specs.Numbers.{sideNumber, entryNumber};
 ghost use Rattle.model.specs.Answered.{laneAt};
 ghost use Rattle.model.specs.declared.Entry.the-variants.{Hn, Ho};
 ghost use Rattle.model.specs.declared.State.the-variants.{Reported};
-ghost use Rattle.encode.specs.Encoding.{accountSize, valueNumbers, positionNumbers, laneNumbers, lanesNumbers, placementNumbers, placementsNumbers, flagNumber, governingNumbers, limitNumbers, wordBytes, accountBytes, ReadBack, Put, CentresFit, RowsFit, CountsFit};
+ghost use Rattle.encode.specs.Encoding.{accountSize, valueNumbers, positionNumbers, laneNumbers, lanesNumbers, placementNumbers, placementsNumbers, flagNumber, governingNumbers, limitNumbers, wordBytes, accountBytes, ReadBack, Stored, CentresFit, RowsFit, CountsFit};
 
 // The number of this layout.
 pub const LAYOUT: u32 = 1;
@@ -55,7 +55,7 @@ fn put_bits(out: &mut [u8], at: usize, x: u64) -> usize
 
 fn put_signed(out: &mut [u8], at: usize, v: i64) -> usize
     requires { ⌜ at + 8 ≤ length (now out) ⌝ }
-    ensures { λ r. ⌜ Put (now (out .entry)) at (v ∷ []) (now (out .exit)) r ⌝ }
+    ensures { λ r. ⌜ Stored (now (out .entry)) at (v ∷ []) (now (out .exit)) r ⌝ }
 {
     put_bits(out, at, bits_of(v))
 }
@@ -63,7 +63,7 @@ fn put_signed(out: &mut [u8], at: usize, v: i64) -> usize
 fn put_count(out: &mut [u8], at: usize, x: u64) -> usize
     requires { ⌜ at + 8 ≤ length (now out) ⌝ }
     requires { ⌜ x < 2 ^ 63 ⌝ }
-    ensures { λ r. ⌜ Put (now (out .entry)) at (pos x ∷ []) (now (out .exit)) r ⌝ }
+    ensures { λ r. ⌜ Stored (now (out .entry)) at (pos x ∷ []) (now (out .exit)) r ⌝ }
 {
     put_bits(out, at, x)
 }
@@ -71,7 +71,7 @@ fn put_count(out: &mut [u8], at: usize, x: u64) -> usize
 // So many zeros.
 fn put_zeros(out: &mut [u8], at: usize, n: usize) -> usize
     requires { ⌜ at + 8 * n ≤ length (now out) ⌝ }
-    ensures { λ r. ⌜ Put (now (out .entry)) at (replicate n (pos 0)) (now (out .exit)) r ⌝ }
+    ensures { λ r. ⌜ Stored (now (out .entry)) at (replicate n (pos 0)) (now (out .exit)) r ⌝ }
 {
     let mut end = at;
     for i in 0..n {
@@ -131,7 +131,7 @@ fn flag_number(b: bool) -> u64
 // The two values of a live kind.
 fn put_values(out: &mut [u8], at: usize, t: Traffic) -> usize
     requires { ⌜ at + 16 ≤ length (now out) ⌝ }
-    ensures { λ r. ⌜ Put (now (out .entry)) at (valueNumbers t) (now (out .exit)) r ⌝ }
+    ensures { λ r. ⌜ Stored (now (out .entry)) at (valueNumbers t) (now (out .exit)) r ⌝ }
 {
     let greatest = t.greatest;
     let least = t.least;
@@ -142,7 +142,7 @@ fn put_values(out: &mut [u8], at: usize, t: Traffic) -> usize
 // A station and its side.
 fn put_position(out: &mut [u8], at: usize, p: Position) -> usize
     requires { ⌜ at + 16 ≤ length (now out) ⌝ }
-    ensures { λ r. ⌜ Put (now (out .entry)) at (positionNumbers p) (now (out .exit)) r ⌝ }
+    ensures { λ r. ⌜ Stored (now (out .entry)) at (positionNumbers p) (now (out .exit)) r ⌝ }
 {
     let side = p.side;
     let end = put_signed(out, at, p.station);
@@ -153,7 +153,7 @@ fn put_position(out: &mut [u8], at: usize, p: Position) -> usize
 fn put_lane(out: &mut [u8], at: usize, l: Lane) -> usize
     requires { ⌜ at + 24 ≤ length (now out) ⌝ }
     requires { ⌜ l .centre < 2 ^ 63 ⌝ }
-    ensures { λ r. ⌜ Put (now (out .entry)) at (laneNumbers l) (now (out .exit)) r ⌝ }
+    ensures { λ r. ⌜ Stored (now (out .entry)) at (laneNumbers l) (now (out .exit)) r ⌝ }
 {
     let entry = l.entry;
     let mut end = put_count(out, at, entry_number(entry));
@@ -165,7 +165,7 @@ fn put_lane(out: &mut [u8], at: usize, l: Lane) -> usize
 fn put_lanes(out: &mut [u8], at: usize, p: Placement) -> usize
     requires { ⌜ at + 120 ≤ length (now out) ⌝ }
     requires { ⌜ ((i : ℕ) → laneAt p i .centre < 2 ^ 63) ⌝ }
-    ensures { λ r. ⌜ Put (now (out .entry)) at (lanesNumbers p 5) (now (out .exit)) r ⌝ }
+    ensures { λ r. ⌜ Stored (now (out .entry)) at (lanesNumbers p 5) (now (out .exit)) r ⌝ }
 {
     let mut end = at;
     for i in 0..5 {
@@ -179,7 +179,7 @@ fn put_lanes(out: &mut [u8], at: usize, p: Placement) -> usize
 fn put_placement(out: &mut [u8], at: usize, p: Placement) -> usize
     requires { ⌜ at + 248 ≤ length (now out) ⌝ }
     requires { ⌜ ((i : ℕ) → laneAt p i .centre < 2 ^ 63) ⌝ }
-    ensures { λ r. ⌜ Put (now (out .entry)) at (placementNumbers p) (now (out .exit)) r ⌝ }
+    ensures { λ r. ⌜ Stored (now (out .entry)) at (placementNumbers p) (now (out .exit)) r ⌝ }
 {
     let mut end = put_count(out, at, p.set as u64);
     end = put_lanes(out, end, p);
@@ -190,7 +190,7 @@ fn put_placement(out: &mut [u8], at: usize, p: Placement) -> usize
 fn put_placements(out: &mut [u8], at: usize, t: Traffic) -> usize
     requires { ⌜ at + 496 ≤ length (now out) ⌝ }
     requires { ⌜ CentresFit t ⌝ }
-    ensures { λ r. ⌜ Put (now (out .entry)) at (placementsNumbers t) (now (out .exit)) r ⌝ }
+    ensures { λ r. ⌜ Stored (now (out .entry)) at (placementsNumbers t) (now (out .exit)) r ⌝ }
 {
     let greatest = t.greatest;
     let least = t.least;
@@ -204,7 +204,7 @@ fn put_placements(out: &mut [u8], at: usize, t: Traffic) -> usize
 fn put_governing(out: &mut [u8], at: usize, g: Governing) -> usize
     requires { ⌜ at + 40 ≤ length (now out) ⌝ }
     requires { ⌜ g .row < 2 ^ 63 ⌝ }
-    ensures { λ r. ⌜ Put (now (out .entry)) at (governingNumbers g) (now (out .exit)) r ⌝ }
+    ensures { λ r. ⌜ Stored (now (out .entry)) at (governingNumbers g) (now (out .exit)) r ⌝ }
 {
     let mut end = put_signed(out, at, g.value);
     end = put_count(out, end, g.row as u64);
@@ -217,7 +217,7 @@ fn put_governing(out: &mut [u8], at: usize, g: Governing) -> usize
 fn put_reported(out: &mut [u8], at: usize, greatest: Governing, least: Governing) -> usize
     requires { ⌜ at + 88 ≤ length (now out) ⌝ }
     requires { ⌜ (greatest .row < 2 ^ 63) × (least .row < 2 ^ 63) ⌝ }
-    ensures { λ r. ⌜ Put (now (out .entry)) at (limitNumbers (Reported greatest least)) (now (out .exit)) r ⌝ }
+    ensures { λ r. ⌜ Stored (now (out .entry)) at (limitNumbers (Reported greatest least)) (now (out .exit)) r ⌝ }
 {
     let mut end = put_count(out, at, 1);
     end = put_governing(out, end, greatest);
@@ -228,7 +228,7 @@ fn put_reported(out: &mut [u8], at: usize, greatest: Governing, least: Governing
 fn put_state(out: &mut [u8], at: usize, s: State) -> usize
     requires { ⌜ at + 88 ≤ length (now out) ⌝ }
     requires { ⌜ RowsFit s ⌝ }
-    ensures { λ r. ⌜ Put (now (out .entry)) at (limitNumbers s) (now (out .exit)) r ⌝ }
+    ensures { λ r. ⌜ Stored (now (out .entry)) at (limitNumbers s) (now (out .exit)) r ⌝ }
 {
     match s {
         State::Absent => put_zeros(out, at, 11),
@@ -240,7 +240,7 @@ fn put_state(out: &mut [u8], at: usize, s: State) -> usize
 fn put_counts(out: &mut [u8], at: usize, lanes: usize) -> usize
     requires { ⌜ at + 24 ≤ length (now out) ⌝ }
     requires { ⌜ lanes < 2 ^ 63 ⌝ }
-    ensures { λ r. ⌜ Put (now (out .entry)) at (pos lanes ∷ pos 0 ∷ pos 0 ∷ []) (now (out .exit)) r ⌝ }
+    ensures { λ r. ⌜ Stored (now (out .entry)) at (pos lanes ∷ pos 0 ∷ pos 0 ∷ []) (now (out .exit)) r ⌝ }
 {
     let end = put_count(out, at, lanes as u64);
     put_zeros(out, end, 2)

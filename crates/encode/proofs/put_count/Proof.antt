@@ -1,6 +1,6 @@
 use mathlib.Core.Path.{refl}
 use lib.IntN.{pos}
-use Rattle.encode.proofs.Puts.{one}
+use Rattle.encode.proofs.Stores.{one}
 use borrow.Author.Needs.{needs}
 use Rattle.encode.proofs.put_count.Statement.{statement}
 use Rattle.encode.proofs.put_count.Tie as tie

@@ -1,4 +1,4 @@
-use Rattle.encode.proofs.Puts.{and-then, natural}
+use Rattle.encode.proofs.Stores.{and-then, natural}
 use borrow.Author.Needs.{needs}
 use Rattle.encode.proofs.put_lane.Statement.{statement}
 use Rattle.encode.proofs.put_lane.Tie as tie

@@ -7,13 +7,13 @@ use borrow.Author.Needs.{needs}
 use Rattle.model.specs.declared.Lane.{Lane}
 use Rattle.model.specs.declared.Placement.{Placement}
 use Rattle.model.specs.Answered.{laneAt}
-use Rattle.encode.specs.Encoding.{laneNumbers, lanesNumbers, Put}
-use Rattle.encode.proofs.Puts.{nothing, and-then, kept, retold}
+use Rattle.encode.specs.Encoding.{laneNumbers, lanesNumbers, Stored}
+use Rattle.encode.proofs.Stores.{nothing, and-then, kept, retold}
 use Rattle.encode.proofs.put_lanes.Statement.{statement}
 use Rattle.encode.proofs.put_lanes.Tie as tie
 
 abbrev Inv-loop : tie.InvT-loop
-Inv-loop out₀ at p end₀ i₀ out end i = (i ≤ 5) × Put out₀ at (lanesNumbers p i) out end
+Inv-loop out₀ at p end₀ i₀ out end i = (i ≤ 5) × Stored out₀ at (lanesNumbers p i) out end
 
 abbrev μ-loop : tie.MeasureT-loop
 μ-loop out₀ at p end₀ i₀ out end i = 5 - i

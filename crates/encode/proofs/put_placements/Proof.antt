@@ -1,5 +1,5 @@
 use native.Mathlib.Omega.{arith}
-use Rattle.encode.proofs.Puts.{and-then}
+use Rattle.encode.proofs.Stores.{and-then}
 use borrow.Author.Needs.{needs}
 use Rattle.encode.proofs.put_placements.Statement.{statement}
 use Rattle.encode.proofs.put_placements.Tie as tie

@@ -2,7 +2,7 @@ use mathlib.Core.Path.{_∙_, ap}
 use mir.Syntax.{w64}
 use mir.Val.{ofZ}
 use mir.Facts.{toZ-ofZ}
-use Rattle.encode.proofs.Puts.{one}
+use Rattle.encode.proofs.Stores.{one}
 use borrow.Author.Needs.{needs}
 use Rattle.encode.proofs.put_signed.Statement.{statement}
 use Rattle.encode.proofs.put_signed.Tie as tie

@@ -4,13 +4,13 @@ use native.Mathlib.Omega.{arith}
 use lib.IntN.{pos}
 use lib.ListN.{length, replicate, length-replicate, replicate-append-replicate}
 use borrow.Author.Needs.{needs}
-use Rattle.encode.specs.Encoding.{Put}
-use Rattle.encode.proofs.Puts.{nothing, and-then, kept, retold}
+use Rattle.encode.specs.Encoding.{Stored}
+use Rattle.encode.proofs.Stores.{nothing, and-then, kept, retold}
 use Rattle.encode.proofs.put_zeros.Statement.{statement}
 use Rattle.encode.proofs.put_zeros.Tie as tie
 
 abbrev Inv-loop : tie.InvT-loop
-Inv-loop out₀ at n end₀ i₀ out end i = (i ≤ n) × Put out₀ at (replicate i (pos 0)) out end
+Inv-loop out₀ at n end₀ i₀ out end i = (i ≤ n) × Stored out₀ at (replicate i (pos 0)) out end
 
 abbrev μ-loop : tie.MeasureT-loop
 μ-loop out₀ at n end₀ i₀ out end i = n - i

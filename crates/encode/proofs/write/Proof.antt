@@ -4,8 +4,8 @@ use Prim.Native.Nat.{ℕ}
 use native.Mathlib.Omega.{arith}
 use lib.ListN.{drop}
 use borrow.Author.Needs.{needs}
-use Rattle.encode.specs.Encoding.{accountSize, accountNumbers, accountBytes, ReadBack, Put}
-use Rattle.encode.proofs.Puts.{and-then, kept, from-start}
+use Rattle.encode.specs.Encoding.{accountSize, accountNumbers, accountBytes, ReadBack, Stored}
+use Rattle.encode.proofs.Stores.{and-then, kept, from-start}
 use Rattle.encode.proofs.Reading.{limit-length, account-count, account-read}
 use Rattle.encode.proofs.write.Statement.{statement}
 use Rattle.encode.proofs.write.Tie as tie
@@ -79,7 +79,7 @@ module _ (c : tie.After-slice-known10) where
   abbrev start : tie.Start
   start = c .before .before .before .before .before .before .before .before .before .before .before .before .before .before .before .before .before .before .before .before .before .before .before .before .before .before .before .before .before .before .before .before .before .before .before .before .before .before .before .before .before
 
-  whole : Put (start .args .out .now) 0 (accountNumbers (start .args .a)) (c .before .before .put-counts .last .0) (c .before .before .put-counts .result)
+  whole : Stored (start .args .out .now) 0 (accountNumbers (start .args .a)) (c .before .before .put-counts .last .0) (c .before .before .put-counts .result)
   whole =
       let p9 = c .before .before in
       let p8 = p9 .before .before .before .before in

@@ -10,7 +10,7 @@ use lib.Seq.{sets, sets-eq, length-sets}
 use mir.Syntax.{w64}
 use mir.Val.{SFits, toZ, ofZ}
 use mir.Facts.{toZ-ofZ}
-use Rattle.encode.specs.Encoding.{wordBytes, numberBytes, bytesOf, AllFit, Put}
+use Rattle.encode.specs.Encoding.{wordBytes, numberBytes, bytesOf, AllFit, Stored}
 
 -- a run of stores, and one from where it ends
 sets-more : (bs cs s : List ℕ) (at p : ℕ) → p ≡ at + length bs → sets (sets s at bs) p cs ≡ sets s at (bs ++ cs)
@@ -31,17 +31,17 @@ fit-append : (xs ys : List ℤ) → AllFit xs → AllFit ys → AllFit (xs ++ ys
 fit-append [] ys f g = g
 fit-append (x ∷ xs) ys f g = (f .0, fit-append xs ys (f .1) g)
 
-pub nothing : {s : List ℕ} (at : ℕ) → Put s at [] s at
+pub nothing : {s : List ℕ} (at : ℕ) → Stored s at [] s at
 unfolding bytesOf
 nothing at = record { ends = omega arith; is = refl; fit = tt }
 
 -- one number, by its bits
-pub one : {s w : List ℕ} {at x r : ℕ} (z : ℤ) → SFits w64 z → x ≡ ofZ w64 z → r ≡ at + 8 → w ≡ sets s at (wordBytes x) → Put s at (z ∷ []) w r
+pub one : {s w : List ℕ} {at x r : ℕ} (z : ℤ) → SFits w64 z → x ≡ ofZ w64 z → r ≡ at + 8 → w ≡ sets s at (wordBytes x) → Stored s at (z ∷ []) w r
 unfolding bytesOf
 one {s} {at = at} z f b e g = record { ends = e; is = g ∙ ap (λ (y : ℕ). sets s at (wordBytes y)) b; fit = (f, tt) }
 
 -- more numbers from where the first end
-pub and-then : {s w v : List ℕ} {at p r : ℕ} {xs ys : List ℤ} → Put s at xs w p → Put w p ys v r → Put s at (xs ++ ys) v r
+pub and-then : {s w v : List ℕ} {at p r : ℕ} {xs ys : List ℤ} → Stored s at xs w p → Stored w p ys v r → Stored s at (xs ++ ys) v r
 and-then {s} {w} {v} {at} {p} {r} {xs} {ys} first next =
     record {
       ends = omega (arith, first .ends, next .ends, length-append xs ys);
@@ -54,21 +54,21 @@ and-then {s} {w} {v} {at} {p} {r} {xs} {ys} first next =
     }
 
 -- the buffer keeps its length
-pub kept : {s w : List ℕ} {at r : ℕ} {xs : List ℤ} → Put s at xs w r → length w ≡ length s
+pub kept : {s w : List ℕ} {at r : ℕ} {xs : List ℤ} → Stored s at xs w r → length w ≡ length s
 kept {s} {w} {at} {r} {xs} h = ap length (h .is) ∙ length-sets s at (bytesOf xs)
 
 -- the same numbers, said otherwise: any; a natural one; one that was read back from its bits
-pub retold : {s w : List ℕ} {at r : ℕ} {xs ys : List ℤ} → xs ≡ ys → Put s at xs w r → Put s at ys w r
-retold {s} {w} {at} {r} e h = subst (λ (zs : List ℤ). Put s at zs w r) e h
+pub retold : {s w : List ℕ} {at r : ℕ} {xs ys : List ℤ} → xs ≡ ys → Stored s at xs w r → Stored s at ys w r
+retold {s} {w} {at} {r} e h = subst (λ (zs : List ℤ). Stored s at zs w r) e h
 
-pub natural : {s w : List ℕ} {at r m n : ℕ} → m ≡ n → Put s at (pos m ∷ []) w r → Put s at (pos n ∷ []) w r
+pub natural : {s w : List ℕ} {at r m n : ℕ} → m ≡ n → Stored s at (pos m ∷ []) w r → Stored s at (pos n ∷ []) w r
 natural e h = retold (ap (λ (k : ℕ). pos k ∷ []) e) h
 
-pub signed : {s w : List ℕ} {at r : ℕ} {z : ℤ} → SFits w64 z → Put s at (toZ w64 (ofZ w64 z) ∷ []) w r → Put s at (z ∷ []) w r
+pub signed : {s w : List ℕ} {at r : ℕ} {z : ℤ} → SFits w64 z → Stored s at (toZ w64 (ofZ w64 z) ∷ []) w r → Stored s at (z ∷ []) w r
 signed f h = retold (ap (λ (y : ℤ). y ∷ []) (toZ-ofZ f)) h
 
 -- from a buffer's start: the numbers' bytes, and the rest as it was
-pub from-start : {s w : List ℕ} {r : ℕ} {zs : List ℤ} → Put s 0 zs w r → r ≤ length s → w ≡ bytesOf zs ++ drop r s
+pub from-start : {s w : List ℕ} {r : ℕ} {zs : List ℤ} → Stored s 0 zs w r → r ≤ length s → w ≡ bytesOf zs ++ drop r s
 from-start {s} {w} {r} {zs} h room =
     let f = bytes-length zs in
     let g : 0 + length (bytesOf zs) ≡ r = omega (arith, h .ends) in
