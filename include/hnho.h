@@ -235,31 +235,33 @@ static inline uint64_t hnho_place(uint64_t result) {
   return result >> 8;
 }
 
-/* What is wrong with a job or its buffers, by the call's result, and who mends it; a line without its end. */
+/* What is wrong with a job or its buffers and who mends it, without a newline. It takes the call's whole result: 2 at place 0 is
+ * another fault than 2 at a word.
+ */
 static inline const char *hnho_refusal_text(uint64_t result) {
   switch (hnho_refusal(result)) {
   case HNHO_ACCEPTED:
     return "accepted";
   case HNHO_NOT_A_JOB:
-    return "under 10 words, a byte count that 4 does not divide, or word 0 is not 1: mended by whoever packs the job";
+    return "under 10 words, a byte count that 4 does not divide, or word 0 is not 1; mended by whoever packs the job";
   case HNHO_HEADER_LIMIT:
     if (hnho_place(result) == 0)
-      return "the account buffer is shorter than an account: mended by the host";
-    return "a header word outside its limits: mended by whoever packs the job";
+      return "the account buffer is shorter than an account; mended by the host";
+    return "a header word outside its limits; mended by whoever packs the job";
   case HNHO_WORD_COUNT:
-    return "not the number of words that the header calls for: mended by whoever packs the job";
+    return "not the number of words that the header calls for; mended by whoever packs the job";
   case HNHO_ORDINATE_LIMIT:
-    return "an ordinate of either line outside its limits: mended by whoever works out the lines";
+    return "an ordinate of either line outside its limits; mended by whoever works out the lines";
   case HNHO_PIECE_CROSSES:
-    return "a piece with one ordinate above 0 and one below: mended by whoever works out the lines";
+    return "a piece with one ordinate above 0 and one below; mended by whoever works out the lines";
   case HNHO_TABLE_LIMIT:
-    return "a word of an effect, a row or a record outside its limits: mended by whoever keeps the factors";
+    return "a word of an effect, a row or a record outside its limits; mended by whoever keeps the factors";
   case HNHO_CHAIN_RETURNS:
-    return "a row's chain comes back to a record: mended by whoever keeps the factors";
+    return "a row's chain comes back to a record; mended by whoever keeps the factors";
   case HNHO_EFFECT_TWICE:
-    return "a row's chain names an effect twice: mended by whoever keeps the factors";
+    return "a row's chain names an effect twice; mended by whoever keeps the factors";
   case HNHO_PATCH_SHORT:
-    return "the patch buffer has fewer bytes than the line has pieces: mended by the host";
+    return "the patch buffer has fewer bytes than the line has pieces; mended by the host";
   default:
     return "no refusal of this kernel";
   }

@@ -78,7 +78,7 @@ step 'compiling examples/host.c' compile examples/host.c target/c/host
 step 'the page of Job A' page target/c/host
 head -c 336 examples/job-a.bin >target/c/short.bin
 step 'a refused job' fails target/c/host target/c/short.bin \
-  'refused 3 at 85: not the number of words that the header calls for: mended by whoever packs the job'
+  'refused 3 at 85: not the number of words that the header calls for; mended by whoever packs the job'
 step 'a header of another layout' another_layout
 step 'the message about another layout' fails target/c/other/host examples/job-a.bin 'host: hnho.h and libhnho.a are of different layouts'
 
