@@ -1,8 +1,10 @@
 //! 01 "The host and the program": reads a job from standard input and prints
 //! its four lines, or `refused NUMBER at PLACE`. Further commands are in USAGE.
 
+use second::generator::{self, Edition};
 use second::job::Job;
-use second::{generator, job_a, report, sampler, solve, store, words};
+use second::lanes::lane_count;
+use second::{job_a, report, sampler, solve, store, words};
 use std::fs;
 use std::io::{self, Read, Write};
 use std::path::Path;
@@ -10,14 +12,15 @@ use std::process::ExitCode;
 
 const USAGE: &str = "usage:
   second < JOB                     print the job's four lines, or its refusal
-  second account < JOB             print them with the placements and omissions
+  second account < JOB             print the whole account, or the refusal
   second beat SEED TRIES < JOB     try to beat the job's account by random draws
   second job-a                     write Job A's bytes to standard output
-  second generate SEED COUNT DIR   write COUNT cases from SEED on into DIR,
-                                   as SEED.job and SEED.patch
-  second store SEED COUNT DIR      write COUNT cases from SEED on, most of them
-                                   short, into DIR/jobs, and what is due for
-                                   each into DIR/expected
+  second generate EDITION SEED COUNT DIR
+                                   write COUNT cases of EDITION's stream from
+                                   SEED on into DIR, as SEED.job and SEED.patch;
+                                   EDITION is 1
+  second store DIR                 write the cases to store into DIR/jobs, and
+                                   what is due for each into DIR/expected
 ";
 
 /// The most bytes of standard input that are read.
@@ -56,28 +59,34 @@ fn run(arguments: &[&str]) -> Result<(), Failure> {
             let answer = solve(&read_job()?, &mut [0; PATCH_BYTES]);
             write_out(report::report(&answer).as_bytes())
         }
-        ["account"] => {
-            let answer = solve(&read_job()?, &mut [0; PATCH_BYTES]);
-            write_out(report::full_report(&answer).as_bytes())
-        }
+        ["account"] => account(),
         ["beat", seed, tries] => {
             let tries = u32::try_from(number(tries)?).map_err(|_| Failure::Usage)?;
             beat(number(seed)?, tries)
         }
         ["job-a"] => write_out(&job_a::job_a().bytes()),
-        ["generate", seed, count, directory] => {
-            generate(number(seed)?, number(count)?, Path::new(directory))
+        ["generate", edition, seed, count, directory] => {
+            let edition = Edition::of_number(number(edition)?).ok_or(Failure::Usage)?;
+            generate(edition, number(seed)?, number(count)?, Path::new(directory))
         }
-        ["store", seed, count, directory] => {
-            let count = usize::try_from(number(count)?).map_err(|_| Failure::Usage)?;
-            store(number(seed)?, count, Path::new(directory))
-        }
+        ["store", directory] => store(Path::new(directory)),
         _ => Err(Failure::Usage),
     }
 }
 
 fn number(argument: &str) -> Result<u64, Failure> {
     argument.parse().map_err(|_| Failure::Usage)
+}
+
+fn account() -> Result<(), Failure> {
+    let job = read_job()?;
+    let answer = solve(&job, &mut [0; PATCH_BYTES]);
+    if answer.refusal != 0 {
+        return write_out(report::report(&answer).as_bytes());
+    }
+    let job = Job::decode(&words::words_of(&job));
+    let page = report::page(lane_count(job.width), &answer.account);
+    write_out(page.as_bytes())
 }
 
 fn beat(seed: u64, tries: u32) -> Result<(), Failure> {
@@ -93,10 +102,10 @@ fn beat(seed: u64, tries: u32) -> Result<(), Failure> {
     }
 }
 
-fn generate(first: u64, count: u64, directory: &Path) -> Result<(), Failure> {
+fn generate(edition: Edition, first: u64, count: u64, directory: &Path) -> Result<(), Failure> {
     let past_last = first.checked_add(count).ok_or(Failure::Usage)?;
     for seed in first..past_last {
-        let case = generator::case(seed);
+        let case = generator::case(edition, seed);
         for (ending, bytes) in [("job", &case.job), ("patch", &case.patch)] {
             write_file(&directory.join(format!("{seed}.{ending}")), bytes)?;
         }
@@ -104,8 +113,8 @@ fn generate(first: u64, count: u64, directory: &Path) -> Result<(), Failure> {
     Ok(())
 }
 
-fn store(first: u64, count: usize, directory: &Path) -> Result<(), Failure> {
-    let stored = store::stored(first, count).ok_or(Failure::Usage)?;
+fn store(directory: &Path) -> Result<(), Failure> {
+    let stored = store::stored();
     write_file(&directory.join("jobs"), &stored.jobs)?;
     write_file(&directory.join("expected"), stored.expected.as_bytes())
 }

@@ -40,6 +40,10 @@ valueNumbers t = t .greatest .value ∷ t .least .value ∷ []
 abbrev pub positionNumbers : Position → List ℤ
 positionNumbers p = p .station ∷ pos (sideNumber (p .side)) ∷ []
 
+-- the four traffic values, the raising and the lowering position
+abbrev pub trafficNumbers : Account → List ℤ
+trafficNumbers a = valueNumbers (a .normal) ++ valueNumbers (a .overload) ++ positionNumbers (a .raising) ++ positionNumbers (a .lowering)
+
 -- a lane's entry and centre; its factor in twentieths is reserved
 abbrev pub laneNumbers : Lane → List ℤ
 laneNumbers l = pos (entryNumber (l .entry)) ∷ pos (l .centre) ∷ pos 0 ∷ []
@@ -78,9 +82,7 @@ countNumbers a = pos (a .lanes) ∷ pos 0 ∷ pos 0 ∷ []
 -- the numbers of an account
 abbrev pub accountNumbers : Account → List ℤ
 accountNumbers a =
-    valueNumbers (a .normal) ++ valueNumbers (a .overload) ++ positionNumbers (a .raising) ++ positionNumbers (a .lowering)
-    ++ placementsNumbers (a .normal) ++ placementsNumbers (a .overload) ++ limitNumbers (a .service) ++ limitNumbers (a .ultimate)
-    ++ countNumbers a
+    trafficNumbers a ++ placementsNumbers (a .normal) ++ placementsNumbers (a .overload) ++ (limitNumbers (a .service) ++ limitNumbers (a .ultimate)) ++ countNumbers a
 
 -- the eight bytes of a 64-bit pattern, lowest first
 abbrev pub wordBytes : ℕ → List ℕ

@@ -21,7 +21,7 @@ ghost use Rattle.model.specs.Numbers.{sideNumber, entryNumber};
 ghost use Rattle.model.specs.Answered.{laneAt};
 ghost use Rattle.model.specs.declared.Entry.the-variants.{Hn, Ho};
 ghost use Rattle.model.specs.declared.State.the-variants.{Reported};
-ghost use Rattle.encode.specs.Encoding.{accountSize, valueNumbers, positionNumbers, laneNumbers, lanesNumbers, placementNumbers, placementsNumbers, flagNumber, governingNumbers, limitNumbers, wordBytes, accountBytes, ReadBack, Stored, CentresFit, RowsFit, CountsFit};
+ghost use Rattle.encode.specs.Encoding.{accountSize, valueNumbers, positionNumbers, trafficNumbers, laneNumbers, lanesNumbers, placementNumbers, placementsNumbers, flagNumber, governingNumbers, limitNumbers, wordBytes, accountBytes, ReadBack, Stored, CentresFit, RowsFit, CountsFit};
 
 // The number of this layout.
 pub const LAYOUT: u32 = 1;
@@ -236,6 +236,31 @@ fn put_state(out: &mut [u8], at: usize, s: State) -> usize
     }
 }
 
+// The four traffic values and the two positions, from a buffer's front on.
+fn put_traffic(out: &mut [u8], a: Account) -> usize
+    requires { ⌜ 64 ≤ length (now out) ⌝ }
+    ensures { λ r. ⌜ Stored (now (out .entry)) 0 (trafficNumbers a) (now (out .exit)) r ⌝ }
+{
+    let normal = a.normal;
+    let overload = a.overload;
+    let raising = a.raising;
+    let lowering = a.lowering;
+    let mut end = put_values(out, 0, normal);
+    end = put_values(out, end, overload);
+    end = put_position(out, end, raising);
+    put_position(out, end, lowering)
+}
+
+// Both limit states.
+fn put_states(out: &mut [u8], at: usize, service: State, ultimate: State) -> usize
+    requires { ⌜ at + 176 ≤ length (now out) ⌝ }
+    requires { ⌜ RowsFit service × RowsFit ultimate ⌝ }
+    ensures { λ r. ⌜ Stored (now (out .entry)) at (limitNumbers service ++ limitNumbers ultimate) (now (out .exit)) r ⌝ }
+{
+    let end = put_state(out, at, service);
+    put_state(out, end, ultimate)
+}
+
 // The lanes of the carriageway, and what is reserved.
 fn put_counts(out: &mut [u8], at: usize, lanes: usize) -> usize
     requires { ⌜ at + 24 ≤ length (now out) ⌝ }
@@ -255,18 +280,12 @@ pub fn write(out: &mut [u8], a: Account)
 {
     let normal = a.normal;
     let overload = a.overload;
-    let raising = a.raising;
-    let lowering = a.lowering;
     let service = a.service;
     let ultimate = a.ultimate;
-    let mut end = put_values(out, 0, normal);
-    end = put_values(out, end, overload);
-    end = put_position(out, end, raising);
-    end = put_position(out, end, lowering);
+    let mut end = put_traffic(out, a);
     end = put_placements(out, end, normal);
     end = put_placements(out, end, overload);
-    end = put_state(out, end, service);
-    end = put_state(out, end, ultimate);
+    end = put_states(out, end, service, ultimate);
     put_counts(out, end, a.lanes);
 }
 

@@ -1,0 +1,39 @@
+use Rattle.encode.proofs.Stores.{and-then}
+use borrow.Author.Needs.{needs}
+use Rattle.encode.proofs.put_traffic.Statement.{statement}
+use Rattle.encode.proofs.put_traffic.Tie as tie
+
+put-values-requires : tie.Need-put-values-requires
+put-values-requires c κs = search needs
+
+put-values-requires-2 : tie.Need-put-values-requires-2
+put-values-requires-2 c κs = search needs
+
+put-position-requires : tie.Need-put-position-requires
+put-position-requires c κs = search needs
+
+put-position-requires-2 : tie.Need-put-position-requires-2
+put-position-requires-2 c κs = search needs
+
+same-length : tie.Need-same-length
+same-length c = search needs
+
+returns : tie.Need-returns
+returns c =
+    let p4 = c .before .before in
+    let p3 = p4 .before .before .before .before in
+    let p2 = p3 .before .before .before .before in
+    let p1 = p2 .before .before .before .before in
+    let values = and-then (p1 .put-values .ensures) (p2 .put-values2 .ensures) in
+    and-then (and-then values (p3 .put-position .ensures)) (p4 .put-position2 .ensures)
+
+pub put-traffic-spec : {M : Type 1} → statement M
+put-traffic-spec =
+    tie.close
+    (tie.spec
+    put-values-requires
+    put-values-requires-2
+    put-position-requires
+    put-position-requires-2
+    same-length
+    returns)
