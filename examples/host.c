@@ -1,8 +1,8 @@
-/* A host in C99: packs Job A, calls the kernel and prints its account for a person to read.
+/* A host in C99 or C++: packs Job A or reads the job of a file, calls the kernel and prints its account for a person to read.
  *
- *   tools/package
- *   gcc -std=c99 -Itarget/dist examples/host.c target/dist/libhnho.a -o target/host
- *   target/host
+ *   host [JOB]
+ *
+ * docs/HOST.md has the commands that build it.
  */
 #include <inttypes.h>
 #include <stdio.h>
@@ -11,20 +11,20 @@
 
 enum {
   PIECES = 20,
-  LANES = 2, /* of a carriageway of 720 cm */
   TRANSVERSE = 19,
   EFFECTS = 1,
   ROWS = 2,
-  RECORDS = 2,
-  WORDS = HNHO_HEADER_WORDS + 2 * PIECES + TRANSVERSE + 2 * EFFECTS + 4 * ROWS + 3 * RECORDS
+  RECORDS = 2
 };
 
-/* The job as it grows, word by word. */
-static uint8_t job[4 * WORDS];
-static size_t words;
+/* The job, with room for a word more than any has, so that an overlong file is refused. */
+static uint8_t job[HNHO_MOST_JOB_BYTES + 4];
+static size_t job_bytes;
 
+/* Packs the job's next word. */
 static void put(int32_t word) {
-  hnho_put_word(job, words++, word);
+  hnho_put_word(job, job_bytes / 4, word);
+  job_bytes += 4;
 }
 
 /* The ten words that say how many of everything follow. */
@@ -84,12 +84,26 @@ static void put_table(void) {
   put_record(1, 1200, 0);
 }
 
-static void print_position(const char *name, const uint8_t *account, size_t station) {
-  printf("  %-8s  left axle at station %" PRId64 ", just %s of it\n", name, hnho_number(account, station),
-         hnho_number(account, station + 1) == HNHO_SIDE_LEFT ? "left" : "right");
+static void pack_job_a(void) {
+  put_header();
+  put_line();
+  put_transverse();
+  put_table();
 }
 
-static const char *entry_name(int entry) {
+/* Reads a file as the job; 0 where it cannot be opened or read. */
+static int read_job(const char *path) {
+  FILE *file = fopen(path, "rb");
+  int good;
+  if (file == NULL)
+    return 0;
+  job_bytes = fread(job, 1, sizeof job, file);
+  good = !ferror(file);
+  fclose(file);
+  return good;
+}
+
+static const char *entry_name(int64_t entry) {
   switch (entry) {
   case HNHO_HN_RAISING: return "HN raising";
   case HNHO_HN_LOWERING: return "HN lowering";
@@ -99,77 +113,72 @@ static const char *entry_name(int entry) {
   }
 }
 
-/* A traffic value and the placement that gives it. A centre is in n-ths of a cm, n being the number of lanes. */
-static void print_placement(const char *name, const uint8_t *account, size_t value, size_t set) {
-  size_t lane;
-  printf("  %-17s %12" PRId64 "  lane set %" PRId64 "\n", name, hnho_number(account, value), hnho_number(account, set));
-  for (lane = 1; lane <= LANES; lane++) {
-    int entry = hnho_entry(account, set, lane);
-    printf("    lane %d  %s", (int)lane, entry_name(entry));
-    if (entry != HNHO_UNLOADED)
-      printf(", centre %.1f cm", (double)hnho_centre(account, set, lane) / LANES);
-    printf("\n");
+/* A traffic value and the placement that gives it, on n lanes. */
+static void print_traffic(const char *name, int64_t value, const struct hnho_placement *placement, int64_t n) {
+  int i;
+  printf("%s %" PRId64 " N.U\n", name, value);
+  printf("  lanes %" PRId64 ", set %" PRId64 "\n", n, placement->set);
+  for (i = 0; i < HNHO_LANES; i++) {
+    const struct hnho_lane *lane = &placement->lane[i];
+    if (lane->entry != HNHO_UNLOADED)
+      printf("  lane %d: %s, centre %" PRId64 "/%" PRId64 " cm, factor %" PRId64 "\n", i + 1, entry_name(lane->entry), lane->centre, n,
+             lane->factor);
   }
 }
 
-/* A limit state's value, the row that governs and what that row leaves out: three numbers follow the value. */
-static void print_governing(const char *name, const uint8_t *account, size_t value) {
-  int64_t left_out = hnho_number(account, value + 2);
-  int effect;
-  printf("    %-8s  %14" PRId64 "  row %" PRId64 ", leaves out", name, hnho_number(account, value), hnho_number(account, value + 1));
-  for (effect = 1; effect <= EFFECTS; effect++)
-    if (left_out >> (effect - 1) & 1)
-      printf(" effect %d", effect);
-  if (hnho_number(account, value + 3))
-    printf(" traffic");
-  else if (left_out == 0)
-    printf(" nothing");
-  printf("\n");
+static void print_position(const char *name, const struct hnho_position *position) {
+  printf("%s pair at station %" PRId64 ", side %s\n", name, position->station, position->side == HNHO_SIDE_LEFT ? "left" : "right");
 }
 
-static void print_state(const char *name, const uint8_t *account, size_t reported) {
-  printf("  %s\n", name);
-  if (!hnho_number(account, reported)) {
-    printf("    none\n");
+static void print_governing(const char *state, const char *question, const struct hnho_governing *governing) {
+  printf("%s %s %" PRId64 " row %" PRId64 ", left out %" PRId64 ", traffic %s\n", state, question, governing->value, governing->row,
+         governing->left_out, governing->unladen ? "left out" : "counts");
+}
+
+static void print_state(const char *name, const struct hnho_state *state) {
+  if (!state->reported) {
+    printf("%s none\n", name);
     return;
   }
-  print_governing("greatest", account, reported + 1);
-  print_governing("least", account, reported + 5);
+  print_governing(name, "greatest", &state->greatest);
+  print_governing(name, "least", &state->least);
 }
 
-static void print_account(const uint8_t *account, const uint8_t *patch) {
-  size_t i;
-  printf("Pieces under a raising (1) or a lowering (2) element's uniform load\n  ");
-  for (i = 0; i < PIECES; i++)
-    printf("%d", patch[i]);
-  printf("\n\nAxle pairs\n");
-  print_position("raising", account, HNHO_RAISING_STATION);
-  print_position("lowering", account, HNHO_LOWERING_STATION);
-  printf("\nTraffic values in N.U, with their placements\n");
-  print_placement("normal greatest", account, HNHO_NORMAL_GREATEST, HNHO_NORMAL_GREATEST_SET);
-  print_placement("normal least", account, HNHO_NORMAL_LEAST, HNHO_NORMAL_LEAST_SET);
-  print_placement("overload greatest", account, HNHO_OVERLOAD_GREATEST, HNHO_OVERLOAD_GREATEST_SET);
-  print_placement("overload least", account, HNHO_OVERLOAD_LEAST, HNHO_OVERLOAD_LEAST_SET);
-  printf("\nLimit states in thousandths of N.U, with the rows that govern\n");
-  print_state("service", account, HNHO_SERVICE_REPORTED);
-  print_state("ultimate", account, HNHO_ULTIMATE_REPORTED);
+static void print_account(const struct hnho_account *account) {
+  int64_t n = account->first_lanes;
+  print_traffic("normal greatest", account->normal_greatest, &account->normal_greatest_placement, n);
+  print_traffic("normal least", account->normal_least, &account->normal_least_placement, n);
+  print_traffic("overload greatest", account->overload_greatest, &account->overload_greatest_placement, n);
+  print_traffic("overload least", account->overload_least, &account->overload_least_placement, n);
+  print_position("raising", &account->raising);
+  print_position("lowering", &account->lowering);
+  print_state("service", &account->service);
+  print_state("ultimate", &account->ultimate);
 }
 
-int main(void) {
-  uint8_t patch[PIECES];
-  uint8_t account[HNHO_ACCOUNT_BYTES];
+int main(int argc, char **argv) {
+  static uint8_t patch[HNHO_MOST_PATCH_BYTES];
+  static uint8_t bytes[HNHO_ACCOUNT_BYTES];
+  struct hnho_account account;
   uint64_t result;
 
-  put_header();
-  put_line();
-  put_transverse();
-  put_table();
-
-  result = hnho_solve(job, sizeof job, patch, sizeof patch, account, sizeof account);
-  if (result != 0) {
-    fprintf(stderr, "refused %d at %" PRIu64 "\n", hnho_refusal(result), hnho_place(result));
+  if (hnho_layout() != HNHO_LAYOUT) {
+    fprintf(stderr, "host: hnho.h and libhnho.a are of different layouts\n");
     return 1;
   }
-  print_account(account, patch);
+  if (argc < 2) {
+    pack_job_a();
+  } else if (!read_job(argv[1])) {
+    fprintf(stderr, "host: %s cannot be read\n", argv[1]);
+    return 1;
+  }
+
+  result = hnho_solve(job, job_bytes, patch, sizeof patch, bytes, sizeof bytes);
+  if (result != 0) {
+    fprintf(stderr, "refused %d at %" PRIu64 ": %s\n", hnho_refusal(result), hnho_place(result), hnho_refusal_text(result));
+    return 1;
+  }
+  hnho_read_account(bytes, &account);
+  print_account(&account);
   return 0;
 }

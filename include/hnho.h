@@ -17,12 +17,18 @@
 extern "C" {
 #endif
 
-/* Sizes in bytes. */
-#define HNHO_ACCOUNT_BYTES 560  /* an account: 70 numbers of 8 bytes */
-#define HNHO_ACCOUNT_NUMBERS 70
+/* The number of the account's layout in this header. Where hnho_layout() answers another, the archive is not this header's. */
+#define HNHO_LAYOUT 1
+
+/* Sizes. */
+#define HNHO_ACCOUNT_BYTES 1256  /* an account: HNHO_ACCOUNT_NUMBERS numbers of 8 bytes */
+#define HNHO_ACCOUNT_NUMBERS 157
+#define HNHO_LANES 10  /* lanes of a placement */
 #define HNHO_MOST_PATCH_BYTES 1000  /* a patch buffer that is long enough for every job: N is at most 1000 */
 #define HNHO_MOST_JOB_BYTES 15660  /* the longest job that can be accepted: 3915 words */
-#define HNHO_LANES 5  /* lanes of a placement in the account; those past the job's own are unloaded */
+
+/* The number of the layout in which the archive writes an account. */
+uint32_t hnho_layout(void);
 
 /* Solves a job.
  *
@@ -44,26 +50,20 @@ extern "C" {
  */
 uint64_t hnho_solve(const uint8_t *job, size_t job_bytes, uint8_t *patch, size_t patch_bytes, uint8_t *account, size_t account_bytes);
 
-/* Refusals. The lowest number that applies is given, with its lowest place. A place counts the job's words from 0. */
+/* Refusals, each with its place: a word of the job, counted from 0, where nothing else is said. The lowest number that applies is
+ * given, with its lowest place. hnho_refusal_text says what is wrong and who mends it.
+ */
 enum hnho_refusal_number {
   HNHO_ACCEPTED = 0,
-
-  /* Mended by whoever packs the job. */
-  HNHO_NOT_A_JOB = 1,       /* under 10 words, a byte count that 4 does not divide, or word 0 is not 1; place 0 */
-  HNHO_HEADER_LIMIT = 2,    /* a word among 1 to 9 outside its limits (N times h over 1000 counts at 2); that word */
-  HNHO_WORD_COUNT = 3,      /* not the number of words that the header calls for; the place is the number due */
-
-  /* Mended by whoever works out the lines. */
-  HNHO_ORDINATE_LIMIT = 4,  /* an ordinate of either line outside its limits; that word */
-  HNHO_PIECE_CROSSES = 5,   /* a piece with one ordinate above 0 and one below; its left ordinate's word */
-
-  /* Mended by whoever keeps the factors. */
-  HNHO_TABLE_LIMIT = 6,     /* a word of an effect, a row or a record outside its limits; that word */
-  HNHO_CHAIN_RETURNS = 7,   /* a row's chain comes back to a record; the row's first word */
-  HNHO_EFFECT_TWICE = 8,    /* a row's chain names an effect twice; the row's first word */
-
-  /* Mended by the host. 2 at place 0 is the host's too: the account buffer is short. */
-  HNHO_PATCH_SHORT = 9      /* the patch buffer has fewer than N bytes; the place is N */
+  HNHO_NOT_A_JOB = 1,       /* 0 */
+  HNHO_HEADER_LIMIT = 2,    /* the word, 1 to 9 (N times h over 1000 counts at 2); 0 for a short account buffer */
+  HNHO_WORD_COUNT = 3,      /* the number of words due */
+  HNHO_ORDINATE_LIMIT = 4,  /* the word */
+  HNHO_PIECE_CROSSES = 5,   /* the piece's left ordinate */
+  HNHO_TABLE_LIMIT = 6,     /* the word */
+  HNHO_CHAIN_RETURNS = 7,   /* the row's first word */
+  HNHO_EFFECT_TWICE = 8,    /* the row's first word */
+  HNHO_PATCH_SHORT = 9      /* N */
 };
 
 /* The words of a job, by place.
@@ -111,93 +111,118 @@ enum hnho_side { HNHO_SIDE_LEFT = 0, HNHO_SIDE_RIGHT = 1 };
 /* What a lane carries. */
 enum hnho_lane_entry { HNHO_UNLOADED = 0, HNHO_HN_RAISING = 1, HNHO_HN_LOWERING = 2, HNHO_HO_RAISING = 3, HNHO_HO_LOWERING = 4 };
 
-/* The 70 numbers of an account. Number k is the signed 64-bit number, little-endian, whose first byte is at offset 8 * k.
- *
- * Traffic values are in N.U, of questions of greatest rounded up, of least rounded down.
- * A station is where the left axle of a pair is, in pieces from the line's left end; below 0 to the left of the line.
- * A set has a bit a lane, lane 1, the leftmost, the lowest; 1 for a loaded lane. A centre is in n-ths of a cm from the left kerb,
- * n the job's number of lanes: 1 for W below 600, 2 below 970, 3 below 1340, 4 below 1710, else 5; 0 for an unloaded lane.
- * Values of limit states are in thousandths of N.U. Where a state has no row, its nine numbers are 0. LEFT_OUT has a bit an effect,
- * effect 1 the lowest; 1 where the effect is left out. UNLADEN is 1 where the traffic is left out.
+/* Where an axle pair stands. */
+struct hnho_position {
+  int64_t station;  /* of the left axle, in pieces from the line's left end; below 0 to the left of the line */
+  int64_t side;     /* of enum hnho_side */
+};
+
+/* What a lane carries in a placement; all 0 for an unloaded lane. */
+struct hnho_lane {
+  int64_t entry;   /* of enum hnho_lane_entry */
+  int64_t centre;  /* in n-ths of a cm from the left kerb, n the lanes of its carriageway */
+  int64_t factor;  /* in twentieths, of an additional lane beside an HO lane; reserved, 0 */
+};
+
+/* A placement of traffic. */
+struct hnho_placement {
+  int64_t set;                        /* a bit a lane, lane 1 the lowest; 1 for a loaded lane */
+  struct hnho_lane lane[HNHO_LANES];  /* from lane 1, the leftmost, at 0; those past the job's own are unloaded */
+};
+
+/* The row that governs a question of a limit state. */
+struct hnho_governing {
+  int64_t value;     /* in thousandths of N.U */
+  int64_t row;       /* from 1; the lowest at a tie */
+  int64_t left_out;  /* a bit an effect, effect 1 the lowest; 1 where the effect is left out */
+  int64_t unladen;   /* 1 where the traffic is left out, else 0 */
+  int64_t k;         /* reserved, 0 */
+};
+
+/* A limit state. */
+struct hnho_state {
+  int64_t reported;  /* 1 where the state has a row; else 0, as is all that follows */
+  struct hnho_governing greatest;
+  struct hnho_governing least;
+};
+
+/* An account, as hnho_read_account takes it out of its bytes. All 0 on a refusal. */
+struct hnho_account {
+  /* Traffic values in N.U: greatest rounded up, least rounded down. */
+  int64_t normal_greatest;
+  int64_t normal_least;
+  int64_t overload_greatest;
+  int64_t overload_least;
+
+  /* The axle pair of every raising and of every lowering element. */
+  struct hnho_position raising;
+  struct hnho_position lowering;
+
+  /* A placement that gives each traffic value. */
+  struct hnho_placement normal_greatest_placement;
+  struct hnho_placement normal_least_placement;
+  struct hnho_placement overload_greatest_placement;
+  struct hnho_placement overload_least_placement;
+
+  struct hnho_state service;
+  struct hnho_state ultimate;
+
+  int64_t first_lanes;     /* lanes of the carriageway */
+  int64_t second_lanes;    /* lanes of a second carriageway; reserved, 0 */
+  int64_t records_walked;  /* reserved, 0 */
+};
+
+/* Places in an account's bytes: number k is signed, of 64 bits, little-endian, and starts at byte 8 * k. The account has places of
+ * its own; a number within a part is at the part's place plus its place in the part. So the row of the greatest service value
+ * is number HNHO_SERVICE + HNHO_GREATEST + HNHO_ROW.
  */
-enum hnho_account_number {
-  HNHO_NORMAL_GREATEST = 0,  /* normal traffic, greatest value */
-  HNHO_NORMAL_LEAST = 1,  /* normal traffic, least value */
-  HNHO_OVERLOAD_GREATEST = 2,  /* overload traffic, greatest value */
-  HNHO_OVERLOAD_LEAST = 3,  /* overload traffic, least value */
+enum hnho_account_place {
+  /* In a position. */
+  HNHO_STATION = 0,
+  HNHO_SIDE = 1,
+  HNHO_POSITION_NUMBERS = 2,
 
-  HNHO_RAISING_STATION = 4,  /* the axle pair of every raising element */
-  HNHO_RAISING_SIDE = 5,
-  HNHO_LOWERING_STATION = 6,  /* the axle pair of every lowering element */
-  HNHO_LOWERING_SIDE = 7,
+  /* In a lane. */
+  HNHO_ENTRY = 0,
+  HNHO_CENTRE = 1,
+  HNHO_FACTOR = 2,
+  HNHO_LANE_NUMBERS = 3,
 
-  HNHO_NORMAL_GREATEST_SET = 8,  /* the placement that gives normal greatest */
-  HNHO_NORMAL_GREATEST_ENTRY_1 = 9,
-  HNHO_NORMAL_GREATEST_CENTRE_1 = 10,
-  HNHO_NORMAL_GREATEST_ENTRY_2 = 11,
-  HNHO_NORMAL_GREATEST_CENTRE_2 = 12,
-  HNHO_NORMAL_GREATEST_ENTRY_3 = 13,
-  HNHO_NORMAL_GREATEST_CENTRE_3 = 14,
-  HNHO_NORMAL_GREATEST_ENTRY_4 = 15,
-  HNHO_NORMAL_GREATEST_CENTRE_4 = 16,
-  HNHO_NORMAL_GREATEST_ENTRY_5 = 17,
-  HNHO_NORMAL_GREATEST_CENTRE_5 = 18,
+  /* In a placement; the lanes are HNHO_LANE_NUMBERS apart. */
+  HNHO_SET = 0,
+  HNHO_LANE_1 = 1,
+  HNHO_PLACEMENT_NUMBERS = HNHO_LANE_1 + HNHO_LANES * HNHO_LANE_NUMBERS,
 
-  HNHO_NORMAL_LEAST_SET = 19,  /* the placement that gives normal least */
-  HNHO_NORMAL_LEAST_ENTRY_1 = 20,
-  HNHO_NORMAL_LEAST_CENTRE_1 = 21,
-  HNHO_NORMAL_LEAST_ENTRY_2 = 22,
-  HNHO_NORMAL_LEAST_CENTRE_2 = 23,
-  HNHO_NORMAL_LEAST_ENTRY_3 = 24,
-  HNHO_NORMAL_LEAST_CENTRE_3 = 25,
-  HNHO_NORMAL_LEAST_ENTRY_4 = 26,
-  HNHO_NORMAL_LEAST_CENTRE_4 = 27,
-  HNHO_NORMAL_LEAST_ENTRY_5 = 28,
-  HNHO_NORMAL_LEAST_CENTRE_5 = 29,
+  /* In the greatest or the least of a state. */
+  HNHO_VALUE = 0,
+  HNHO_ROW = 1,
+  HNHO_LEFT_OUT = 2,
+  HNHO_UNLADEN = 3,
+  HNHO_K = 4,
+  HNHO_GOVERNING_NUMBERS = 5,
 
-  HNHO_OVERLOAD_GREATEST_SET = 30,  /* the placement that gives overload greatest */
-  HNHO_OVERLOAD_GREATEST_ENTRY_1 = 31,
-  HNHO_OVERLOAD_GREATEST_CENTRE_1 = 32,
-  HNHO_OVERLOAD_GREATEST_ENTRY_2 = 33,
-  HNHO_OVERLOAD_GREATEST_CENTRE_2 = 34,
-  HNHO_OVERLOAD_GREATEST_ENTRY_3 = 35,
-  HNHO_OVERLOAD_GREATEST_CENTRE_3 = 36,
-  HNHO_OVERLOAD_GREATEST_ENTRY_4 = 37,
-  HNHO_OVERLOAD_GREATEST_CENTRE_4 = 38,
-  HNHO_OVERLOAD_GREATEST_ENTRY_5 = 39,
-  HNHO_OVERLOAD_GREATEST_CENTRE_5 = 40,
+  /* In a state. */
+  HNHO_REPORTED = 0,
+  HNHO_GREATEST = 1,
+  HNHO_LEAST = HNHO_GREATEST + HNHO_GOVERNING_NUMBERS,
+  HNHO_STATE_NUMBERS = HNHO_LEAST + HNHO_GOVERNING_NUMBERS,
 
-  HNHO_OVERLOAD_LEAST_SET = 41,  /* the placement that gives overload least */
-  HNHO_OVERLOAD_LEAST_ENTRY_1 = 42,
-  HNHO_OVERLOAD_LEAST_CENTRE_1 = 43,
-  HNHO_OVERLOAD_LEAST_ENTRY_2 = 44,
-  HNHO_OVERLOAD_LEAST_CENTRE_2 = 45,
-  HNHO_OVERLOAD_LEAST_ENTRY_3 = 46,
-  HNHO_OVERLOAD_LEAST_CENTRE_3 = 47,
-  HNHO_OVERLOAD_LEAST_ENTRY_4 = 48,
-  HNHO_OVERLOAD_LEAST_CENTRE_4 = 49,
-  HNHO_OVERLOAD_LEAST_ENTRY_5 = 50,
-  HNHO_OVERLOAD_LEAST_CENTRE_5 = 51,
-
-  HNHO_SERVICE_REPORTED = 52,  /* 1 where the service state has a row, else 0 */
-  HNHO_SERVICE_GREATEST = 53,  /* greatest value */
-  HNHO_SERVICE_GREATEST_ROW = 54,  /* its row, the lowest at a tie */
-  HNHO_SERVICE_GREATEST_LEFT_OUT = 55,
-  HNHO_SERVICE_GREATEST_UNLADEN = 56,
-  HNHO_SERVICE_LEAST = 57,  /* least value */
-  HNHO_SERVICE_LEAST_ROW = 58,  /* its row, the lowest at a tie */
-  HNHO_SERVICE_LEAST_LEFT_OUT = 59,
-  HNHO_SERVICE_LEAST_UNLADEN = 60,
-
-  HNHO_ULTIMATE_REPORTED = 61,  /* 1 where the ultimate state has a row, else 0 */
-  HNHO_ULTIMATE_GREATEST = 62,  /* greatest value */
-  HNHO_ULTIMATE_GREATEST_ROW = 63,  /* its row, the lowest at a tie */
-  HNHO_ULTIMATE_GREATEST_LEFT_OUT = 64,
-  HNHO_ULTIMATE_GREATEST_UNLADEN = 65,
-  HNHO_ULTIMATE_LEAST = 66,  /* least value */
-  HNHO_ULTIMATE_LEAST_ROW = 67,  /* its row, the lowest at a tie */
-  HNHO_ULTIMATE_LEAST_LEFT_OUT = 68,
-  HNHO_ULTIMATE_LEAST_UNLADEN = 69
+  /* In the account. */
+  HNHO_NORMAL_GREATEST = 0,
+  HNHO_NORMAL_LEAST = 1,
+  HNHO_OVERLOAD_GREATEST = 2,
+  HNHO_OVERLOAD_LEAST = 3,
+  HNHO_RAISING = 4,
+  HNHO_LOWERING = HNHO_RAISING + HNHO_POSITION_NUMBERS,
+  HNHO_NORMAL_GREATEST_PLACEMENT = HNHO_LOWERING + HNHO_POSITION_NUMBERS,
+  HNHO_NORMAL_LEAST_PLACEMENT = HNHO_NORMAL_GREATEST_PLACEMENT + HNHO_PLACEMENT_NUMBERS,
+  HNHO_OVERLOAD_GREATEST_PLACEMENT = HNHO_NORMAL_LEAST_PLACEMENT + HNHO_PLACEMENT_NUMBERS,
+  HNHO_OVERLOAD_LEAST_PLACEMENT = HNHO_OVERLOAD_GREATEST_PLACEMENT + HNHO_PLACEMENT_NUMBERS,
+  HNHO_SERVICE = HNHO_OVERLOAD_LEAST_PLACEMENT + HNHO_PLACEMENT_NUMBERS,
+  HNHO_ULTIMATE = HNHO_SERVICE + HNHO_STATE_NUMBERS,
+  HNHO_FIRST_LANES = HNHO_ULTIMATE + HNHO_STATE_NUMBERS,
+  HNHO_SECOND_LANES = HNHO_FIRST_LANES + 1,
+  HNHO_RECORDS_WALKED = HNHO_SECOND_LANES + 1
 };
 
 /* A result's refusal number, 0 for acceptance. */
@@ -205,9 +230,41 @@ static inline int hnho_refusal(uint64_t result) {
   return (int)(result & 255u);
 }
 
-/* A result's place: a word of the job, or the number that HNHO_WORD_COUNT or HNHO_PATCH_SHORT names. */
+/* A result's place. */
 static inline uint64_t hnho_place(uint64_t result) {
   return result >> 8;
+}
+
+/* What is wrong with a job or its buffers and who mends it, without a newline. It takes the call's whole result: 2 at place 0 is
+ * another fault than 2 at a word.
+ */
+static inline const char *hnho_refusal_text(uint64_t result) {
+  switch (hnho_refusal(result)) {
+  case HNHO_ACCEPTED:
+    return "accepted";
+  case HNHO_NOT_A_JOB:
+    return "under 10 words, a byte count that 4 does not divide, or word 0 is not 1; mended by whoever packs the job";
+  case HNHO_HEADER_LIMIT:
+    if (hnho_place(result) == 0)
+      return "the account buffer is shorter than an account; mended by the host";
+    return "a header word outside its limits; mended by whoever packs the job";
+  case HNHO_WORD_COUNT:
+    return "not the number of words that the header calls for; mended by whoever packs the job";
+  case HNHO_ORDINATE_LIMIT:
+    return "an ordinate of either line outside its limits; mended by whoever works out the lines";
+  case HNHO_PIECE_CROSSES:
+    return "a piece with one ordinate above 0 and one below; mended by whoever works out the lines";
+  case HNHO_TABLE_LIMIT:
+    return "a word of an effect, a row or a record outside its limits; mended by whoever keeps the factors";
+  case HNHO_CHAIN_RETURNS:
+    return "a row's chain comes back to a record; mended by whoever keeps the factors";
+  case HNHO_EFFECT_TWICE:
+    return "a row's chain names an effect twice; mended by whoever keeps the factors";
+  case HNHO_PATCH_SHORT:
+    return "the patch buffer has fewer bytes than the line has pieces; mended by the host";
+  default:
+    return "no refusal of this kernel";
+  }
 }
 
 /* Number k of an account, on any machine. */
@@ -219,14 +276,54 @@ static inline int64_t hnho_number(const uint8_t *account, size_t k) {
   return bits >> 63 ? -(int64_t)~bits - 1 : (int64_t)bits;
 }
 
-/* A lane's entry in a placement; set is the number of the placement's set, as HNHO_NORMAL_GREATEST_SET, lane 1 the leftmost. */
-static inline int hnho_entry(const uint8_t *account, size_t set, size_t lane) {
-  return (int)hnho_number(account, set + 2 * lane - 1);
+/* The part of an account at a place; hnho_read_account takes them all. */
+static inline void hnho_read_position(const uint8_t *bytes, size_t place, struct hnho_position *position) {
+  position->station = hnho_number(bytes, place + HNHO_STATION);
+  position->side = hnho_number(bytes, place + HNHO_SIDE);
 }
 
-/* A lane's centre in a placement, in n-ths of a cm. */
-static inline int64_t hnho_centre(const uint8_t *account, size_t set, size_t lane) {
-  return hnho_number(account, set + 2 * lane);
+static inline void hnho_read_placement(const uint8_t *bytes, size_t place, struct hnho_placement *placement) {
+  size_t i;
+  placement->set = hnho_number(bytes, place + HNHO_SET);
+  for (i = 0; i < HNHO_LANES; i++) {
+    size_t lane = place + HNHO_LANE_1 + i * HNHO_LANE_NUMBERS;
+    placement->lane[i].entry = hnho_number(bytes, lane + HNHO_ENTRY);
+    placement->lane[i].centre = hnho_number(bytes, lane + HNHO_CENTRE);
+    placement->lane[i].factor = hnho_number(bytes, lane + HNHO_FACTOR);
+  }
+}
+
+static inline void hnho_read_governing(const uint8_t *bytes, size_t place, struct hnho_governing *governing) {
+  governing->value = hnho_number(bytes, place + HNHO_VALUE);
+  governing->row = hnho_number(bytes, place + HNHO_ROW);
+  governing->left_out = hnho_number(bytes, place + HNHO_LEFT_OUT);
+  governing->unladen = hnho_number(bytes, place + HNHO_UNLADEN);
+  governing->k = hnho_number(bytes, place + HNHO_K);
+}
+
+static inline void hnho_read_state(const uint8_t *bytes, size_t place, struct hnho_state *state) {
+  state->reported = hnho_number(bytes, place + HNHO_REPORTED);
+  hnho_read_governing(bytes, place + HNHO_GREATEST, &state->greatest);
+  hnho_read_governing(bytes, place + HNHO_LEAST, &state->least);
+}
+
+/* Takes an account out of the HNHO_ACCOUNT_BYTES bytes that hnho_solve wrote, on any machine. */
+static inline void hnho_read_account(const uint8_t *bytes, struct hnho_account *account) {
+  account->normal_greatest = hnho_number(bytes, HNHO_NORMAL_GREATEST);
+  account->normal_least = hnho_number(bytes, HNHO_NORMAL_LEAST);
+  account->overload_greatest = hnho_number(bytes, HNHO_OVERLOAD_GREATEST);
+  account->overload_least = hnho_number(bytes, HNHO_OVERLOAD_LEAST);
+  hnho_read_position(bytes, HNHO_RAISING, &account->raising);
+  hnho_read_position(bytes, HNHO_LOWERING, &account->lowering);
+  hnho_read_placement(bytes, HNHO_NORMAL_GREATEST_PLACEMENT, &account->normal_greatest_placement);
+  hnho_read_placement(bytes, HNHO_NORMAL_LEAST_PLACEMENT, &account->normal_least_placement);
+  hnho_read_placement(bytes, HNHO_OVERLOAD_GREATEST_PLACEMENT, &account->overload_greatest_placement);
+  hnho_read_placement(bytes, HNHO_OVERLOAD_LEAST_PLACEMENT, &account->overload_least_placement);
+  hnho_read_state(bytes, HNHO_SERVICE, &account->service);
+  hnho_read_state(bytes, HNHO_ULTIMATE, &account->ultimate);
+  account->first_lanes = hnho_number(bytes, HNHO_FIRST_LANES);
+  account->second_lanes = hnho_number(bytes, HNHO_SECOND_LANES);
+  account->records_walked = hnho_number(bytes, HNHO_RECORDS_WALKED);
 }
 
 /* Writes a word of a job, on any machine. */

@@ -1,6 +1,7 @@
 #!/usr/bin/env bash
-# The C side: packages the kernel, compiles the header and the C files with warnings as errors, runs them under the address and
-# undefined-behaviour sanitizers and holds the example's output to examples/host.expected. Its products are in target/c.
+# The C side: installs the kernel, compiles the header and the C files with warnings as errors, runs them under the address and
+# undefined-behaviour sanitizers and holds the example's output to examples/host.expected. The same example is built by pkg-config
+# from a moved installation, outside the repository, as C and as C++. Its products are in target/c.
 set -u
 cd "$(dirname "$0")/.." || exit 2
 
@@ -16,38 +17,81 @@ step() {
   fi
 }
 
-for tool in rt gcc; do
+for tool in rt gcc g++ pkg-config; do
   command -v "$tool" >/dev/null || { printf 'c.sh: FAILED: %s is not on PATH\n' "$tool" >&2; exit 2; }
 done
 
-# compile FILE PRODUCT: a host, with the sanitizers
-compile() {
-  gcc -std=c99 -O1 -g -pedantic -Wall -Wextra -Werror -fsanitize=address,undefined -fno-sanitize-recover=all \
-    -Itarget/dist "$1" target/dist/libhnho.a -o "$2"
-}
+warnings='-pedantic -Wall -Wextra -Werror'
 
 # header COMPILER..: the header alone
 header() {
-  "$@" -pedantic -Wall -Wextra -Werror -fsyntax-only -Itarget/dist target/c/header.c
+  "$@" $warnings -fsyntax-only -Itarget/dist/include target/c/header.c
 }
 
-# the example prints what is stored
-example() {
-  target/c/host >target/c/host.out && diff -u examples/host.expected target/c/host.out
+# compile FILE PRODUCT: a host, with the sanitizers
+compile() {
+  gcc -std=c99 -O1 -g $warnings -fsanitize=address,undefined -fno-sanitize-recover=all \
+    -Itarget/dist/include "$1" target/dist/lib/libhnho.a -o "$2"
 }
+
+# page HOST: the example prints what is stored
+page() {
+  "$1" >target/c/host.out && diff -u examples/host.expected target/c/host.out
+}
+
+# fails HOST JOB TEXT: the example prints nothing on the job, says this and has status 1
+fails() {
+  "$1" "$2" >target/c/host.out 2>target/c/host.err
+  [ $? -eq 1 ] && [ ! -s target/c/host.out ] && printf '%s\n' "$3" | diff -u - target/c/host.err
+}
+
+# another_layout: the example with a header of layout 2
+another_layout() {
+  mkdir -p target/c/other && sed 's/^#define HNHO_LAYOUT .*/#define HNHO_LAYOUT 2/' include/hnho.h >target/c/other/hnho.h &&
+    gcc -std=c99 $warnings -Itarget/c/other examples/host.c target/dist/lib/libhnho.a -o target/c/other/host
+}
+
+# install_in FOLDER PREFIX: an installation, PREFIX being a path from FOLDER
+install_in() {
+  local top=$PWD
+  (cd "$1" && "$top/tools/package" "$2")
+}
+
+# outside FOLDER COMPILER..: the example by pkg-config, with FOLDER/moved as the installation and no file of the repository
+outside() (
+  cd "$1" && export PKG_CONFIG_PATH=$1/moved/lib/pkgconfig && shift &&
+    flags=$(pkg-config --cflags hnho) && libraries=$(pkg-config --libs hnho) &&
+    "$@" $warnings $flags host.c $libraries -o host
+)
 
 step 'the package' tools/package
 step 'the folder target/c' mkdir -p target/c
 printf '#include "hnho.h"\n' >target/c/header.c
-step 'the header as C99' header gcc -std=c99
-if command -v g++ >/dev/null; then
-  step 'the header as C++98' header g++ -x c++ -std=c++98 -Wno-long-long
-  step 'the header as C++17' header g++ -x c++ -std=c++17
-else
-  printf 'c.sh: no g++ here, so the header is not tried as C++\n'
-fi
+for standard in c99 c11; do
+  step "the header as $standard" header gcc -std=$standard
+done
+for standard in c++98 c++11 c++17 c++20; do
+  step "the header as $standard" header g++ -x c++ -std=$standard
+done
+
 step 'compiling examples/host.c' compile examples/host.c target/c/host
-step 'the output of examples/host.c' example
+step 'the page of Job A' page target/c/host
+head -c 336 examples/job-a.bin >target/c/short.bin
+step 'a refused job' fails target/c/host target/c/short.bin \
+  'refused 3 at 85: not the number of words that the header calls for; mended by whoever packs the job'
+step 'a header of another layout' another_layout
+step 'the message about another layout' fails target/c/other/host examples/job-a.bin 'host: hnho.h and libhnho.a are of different layouts'
+
 step 'compiling tests/host_edges.c' compile tests/host_edges.c target/c/host_edges
 step 'tests/host_edges.c' target/c/host_edges examples/job-a.bin
-printf 'c.sh: the header, the example host and the edges are as due\n'
+
+away=$(mktemp -d) || exit 2
+trap 'rm -rf "$away"' EXIT
+step 'an installation' install_in "$away" first
+step 'moving the installation' mv "$away/first" "$away/moved"
+step 'a copy of the example' cp examples/host.c "$away/host.c"
+for compiler in 'gcc -std=c99' 'g++ -x c++ -std=c++98' 'g++ -x c++ -std=c++20'; do
+  step "the example by $compiler and pkg-config" outside "$away" $compiler
+  step "the page by $compiler and pkg-config" page "$away/host"
+done
+printf 'c.sh: the header, the example host, the edges and the installation are as due\n'

@@ -1,4 +1,5 @@
-/* The edges of hnho_solve: null pointers, odd lengths, short, exact and long buffers, one refusal of each number.
+/* The edges of hnho_solve: null pointers, odd lengths, short, exact and long buffers, one refusal of each number; every number of
+ * Job A's account; and the header's own functions. Expected numbers are document 01's or worked out from it by hand.
  * Every buffer has guard bytes on both sides; every byte that must keep its contents is looked at.
  *
  *   host_edges JOB-A
@@ -89,26 +90,93 @@ static void expect_cleared(struct buffer patch, struct buffer account) {
   expect(all_are(account.bytes, cleared, account.n, OLD_ACCOUNT), "a refusal changed bytes past the account");
 }
 
-/* Job A's account: numbers of document 01, a byte a piece, and everything past them as before. */
+/* The ordinate of Job A's line at a station: up by 50 a piece to 500 at its middle and down again, 0 off the line. */
+static int64_t ordinate(int64_t station) {
+  if (station < 0 || station > PIECES)
+    return 0;
+  return station <= PIECES / 2 ? 50 * station : 50 * (PIECES - station);
+}
+
+/* A pair, its axles five pieces apart, whose ordinates add up to `sum`. */
+static void expect_pair(struct hnho_position p, int64_t sum, const char *what) {
+  expect(p.station >= -5 && p.station <= PIECES, what);
+  expect(ordinate(p.station) + ordinate(p.station + 5) == sum, what);
+  expect(p.side == HNHO_SIDE_LEFT || p.side == HNHO_SIDE_RIGHT, what);
+}
+
+static int is_lane(struct hnho_lane lane, int entry, int64_t centre) {
+  return lane.entry == entry && lane.centre == centre && lane.factor == 0;
+}
+
+static void expect_unloaded_from(const struct hnho_placement *p, int i, const char *what) {
+  for (; i < HNHO_LANES; i++)
+    expect(is_lane(p->lane[i], HNHO_UNLOADED, 0), what);
+}
+
+/* The placement of a greatest value of Job A. Its transverse line falls from left to right, so a lane's best centre is its leftmost:
+ * 150 cm and 360 + 150 cm, in halves, with ordinates 712.5 and 262.5. Both lanes at 18 twentieths beat lane 1 alone, and HO is worth
+ * most on lane 1. */
+static void expect_greatest_placement(const struct hnho_placement *p, int first_entry, const char *what) {
+  expect(p->set == 3, what);
+  expect(is_lane(p->lane[0], first_entry, 300), what);
+  expect(is_lane(p->lane[1], HNHO_HN_RAISING, 1020), what);
+  expect_unloaded_from(p, 2, what);
+}
+
+/* The placement of a least value of Job A, 0: any lanes with lowering elements, whose pair is off the line, at lawful centres, from 300
+ * to 420 halves and from 1020 to 1140; `ho` HO elements. */
+static void expect_least_placement(const struct hnho_placement *p, int ho, const char *what) {
+  int64_t set = 0;
+  int i;
+  for (i = 0; i < 2; i++) {
+    struct hnho_lane lane = p->lane[i];
+    if (is_lane(lane, HNHO_UNLOADED, 0))
+      continue;
+    expect(lane.entry == HNHO_HN_LOWERING || lane.entry == HNHO_HO_LOWERING, what);
+    expect(lane.centre >= 300 + 720 * i && lane.centre <= 420 + 720 * i, what);
+    expect(lane.factor == 0, what);
+    ho -= lane.entry == HNHO_HO_LOWERING;
+    set += 1 << i;
+  }
+  expect(ho == 0, what);
+  expect(p->set == set, what);
+  expect_unloaded_from(p, 2, what);
+}
+
+/* A state of Job A: its one row, whose one effect cannot be left out. The greatest needs the traffic; the least traffic is 0, so the
+ * least value is the same with it and without. */
+static void expect_state(const struct hnho_state *s, int64_t row, int64_t greatest, int64_t least, const char *what) {
+  expect(s->reported == 1, what);
+  expect(s->greatest.value == greatest && s->least.value == least, what);
+  expect(s->greatest.row == row && s->least.row == row, what);
+  expect(s->greatest.left_out == 0 && s->least.left_out == 0, what);
+  expect(s->greatest.unladen == 0, what);
+  expect(s->least.unladen == 0 || s->least.unladen == 1, what);
+  expect(s->greatest.k == 0 && s->least.k == 0, what);
+}
+
+/* Job A's account, its patch bytes, and everything past them as before. */
 static void expect_job_a(struct buffer patch, struct buffer account) {
-  const uint8_t *a = account.bytes;
+  struct hnho_account a;
   expect(all_are(patch.bytes, 0, PIECES, HNHO_PATCH_RAISING), "the patch bytes are not Job A's");
   expect(all_are(patch.bytes, PIECES, patch.n, OLD_PATCH), "bytes past N changed");
-  expect(all_are(a, HNHO_ACCOUNT_BYTES, account.n, OLD_ACCOUNT), "bytes past the account changed");
-  expect(hnho_number(a, HNHO_NORMAL_GREATEST) == 162556875, "normal greatest");
-  expect(hnho_number(a, HNHO_NORMAL_LEAST) == 0, "normal least");
-  expect(hnho_number(a, HNHO_OVERLOAD_GREATEST) == 263981250, "overload greatest");
-  expect(hnho_number(a, HNHO_OVERLOAD_LEAST) == 0, "overload least");
-  expect(hnho_number(a, HNHO_SERVICE_REPORTED) == 1, "service is reported");
-  expect(hnho_number(a, HNHO_SERVICE_GREATEST) == INT64_C(299451781250), "service greatest");
-  expect(hnho_number(a, HNHO_SERVICE_GREATEST_ROW) == 1, "service greatest's row");
-  expect(hnho_number(a, HNHO_SERVICE_LEAST) == INT64_C(80000000000), "service least");
-  expect(hnho_number(a, HNHO_SERVICE_LEAST_ROW) == 1, "service least's row");
-  expect(hnho_number(a, HNHO_ULTIMATE_REPORTED) == 1, "ultimate is reported");
-  expect(hnho_number(a, HNHO_ULTIMATE_GREATEST) == INT64_C(491971875000), "ultimate greatest");
-  expect(hnho_number(a, HNHO_ULTIMATE_GREATEST_ROW) == 2, "ultimate greatest's row");
-  expect(hnho_number(a, HNHO_ULTIMATE_LEAST) == INT64_C(96000000000), "ultimate least");
-  expect(hnho_number(a, HNHO_ULTIMATE_LEAST_ROW) == 2, "ultimate least's row");
+  expect(all_are(account.bytes, HNHO_ACCOUNT_BYTES, account.n, OLD_ACCOUNT), "bytes past the account changed");
+  hnho_read_account(account.bytes, &a);
+  expect(a.normal_greatest == 162556875, "normal greatest");
+  expect(a.normal_least == 0, "normal least");
+  expect(a.overload_greatest == 263981250, "overload greatest");
+  expect(a.overload_least == 0, "overload least");
+  expect_pair(a.raising, 750, "the raising pair");
+  expect_pair(a.lowering, 0, "the lowering pair");
+  expect_greatest_placement(&a.normal_greatest_placement, HNHO_HN_RAISING, "normal greatest's placement");
+  expect_least_placement(&a.normal_least_placement, 0, "normal least's placement");
+  expect_greatest_placement(&a.overload_greatest_placement, HNHO_HO_RAISING, "overload greatest's placement");
+  expect_least_placement(&a.overload_least_placement, 1, "overload least's placement");
+  expect_state(&a.service, 1, INT64_C(299451781250), INT64_C(80000000000), "service");
+  expect_state(&a.ultimate, 2, INT64_C(491971875000), INT64_C(96000000000), "ultimate");
+  expect(a.first_lanes == 2, "lanes of the carriageway");
+  expect(a.second_lanes == 0, "lanes of a second carriageway");
+  expect(a.records_walked == 0, "records walked");
 }
 
 /* Calls the kernel on buffers of its own and looks at every byte: the first `bytes` bytes of a job, `null` for null pointers
@@ -220,7 +288,7 @@ static void refusals(void) {
 }
 
 /* The header's reader against numbers of both signs. */
-static void reader(void) {
+static void number_reader(void) {
   static const uint8_t bytes[] = {
     0xff, 0xff, 0xff, 0xff, 0xff, 0xff, 0xff, 0xff, /* -1 */
     0, 0, 0, 0, 0, 0, 0, 0x80, /* the least */
@@ -232,6 +300,93 @@ static void reader(void) {
   expect(hnho_number(bytes, 1) == INT64_MIN, "the least");
   expect(hnho_number(bytes, 2) == INT64_MAX, "the greatest");
   expect(hnho_number(bytes, 3) == INT64_C(0x0807060504030201), "the order of bytes");
+}
+
+static void expect_placement_at(const struct hnho_placement *p, int64_t place, const char *what) {
+  int i;
+  expect(p->set == place, what);
+  for (i = 0; i < 10; i++) {
+    expect(p->lane[i].entry == place + 1 + 3 * i, what);
+    expect(p->lane[i].centre == place + 2 + 3 * i, what);
+    expect(p->lane[i].factor == place + 3 + 3 * i, what);
+  }
+}
+
+static void expect_governing_at(struct hnho_governing g, int64_t place, const char *what) {
+  expect(g.value == place && g.row == place + 1 && g.left_out == place + 2 && g.unladen == place + 3 && g.k == place + 4, what);
+}
+
+static void expect_state_at(const struct hnho_state *s, int64_t place, const char *what) {
+  expect(s->reported == place, what);
+  expect_governing_at(s->greatest, place + 1, what);
+  expect_governing_at(s->least, place + 6, what);
+}
+
+/* The layout: an account whose number k is k, on a buffer of its length. */
+static void account_reader(void) {
+  struct buffer b = lend(1256, 0);
+  struct hnho_account a;
+  size_t k;
+  step = "hnho_read_account";
+  expect(HNHO_ACCOUNT_BYTES == 1256 && HNHO_ACCOUNT_NUMBERS == 157 && HNHO_LANES == 10, "the sizes");
+  for (k = 0; k < 157; k++)
+    b.bytes[8 * k] = (uint8_t)k;
+  memset(&a, 0xff, sizeof a);
+  hnho_read_account(b.bytes, &a);
+  expect(a.normal_greatest == 0 && a.normal_least == 1 && a.overload_greatest == 2 && a.overload_least == 3, "the traffic values");
+  expect(a.raising.station == 4 && a.raising.side == 5, "raising");
+  expect(a.lowering.station == 6 && a.lowering.side == 7, "lowering");
+  expect_placement_at(&a.normal_greatest_placement, 8, "normal greatest's placement");
+  expect_placement_at(&a.normal_least_placement, 39, "normal least's placement");
+  expect_placement_at(&a.overload_greatest_placement, 70, "overload greatest's placement");
+  expect_placement_at(&a.overload_least_placement, 101, "overload least's placement");
+  expect_state_at(&a.service, 132, "service");
+  expect_state_at(&a.ultimate, 143, "ultimate");
+  expect(a.first_lanes == 154 && a.second_lanes == 155 && a.records_walked == 156, "lanes and records");
+  take_back(b, "a byte beside the account changed");
+}
+
+static void layout(void) {
+  step = "hnho_layout";
+  expect(HNHO_LAYOUT == 1, "the header's layout");
+  expect(hnho_layout() == 1, "the archive's layout");
+}
+
+/* Every result's text: there is one, it is a line, no other result's, names who mends it as document 01 does, and is the same at every
+ * place but that of the account buffer. */
+static void refusal_texts(void) {
+  static const char packs[] = "whoever packs the job", lines[] = "whoever works out the lines", factors[] = "whoever keeps the factors";
+  static const struct {
+    uint64_t result;
+    const char *mended_by;
+  } due[] = {
+    {0, ""},
+    {7 << 8 | 1, packs},
+    {7 << 8 | 2, packs},
+    {7 << 8 | 3, packs},
+    {7 << 8 | 4, lines},
+    {7 << 8 | 5, lines},
+    {7 << 8 | 6, factors},
+    {7 << 8 | 7, factors},
+    {7 << 8 | 8, factors},
+    {7 << 8 | 9, "the host"},
+    {2, "the host"},
+    {10, ""}
+  };
+  size_t texts = sizeof due / sizeof *due, i, j;
+  step = "hnho_refusal_text";
+  for (i = 0; i < texts; i++) {
+    const char *text = hnho_refusal_text(due[i].result);
+    expect(text != NULL && text[0] != 0 && strchr(text, '\n') == NULL, "is no line");
+    expect(strstr(text, due[i].mended_by) != NULL, "does not name who mends it");
+    for (j = 0; j < i; j++)
+      expect(strcmp(text, hnho_refusal_text(due[j].result)) != 0, "is another result's");
+  }
+  for (i = 0; i < 10; i++)
+    if (i != HNHO_HEADER_LIMIT)
+      expect(strcmp(hnho_refusal_text(i), hnho_refusal_text(due[i].result)) == 0, "changes with the place");
+  for (; i < 256; i++)
+    expect(strcmp(hnho_refusal_text(i), hnho_refusal_text(10)) == 0, "is of no refusal");
 }
 
 static void read_job_a(const char *path) {
@@ -249,7 +404,10 @@ int main(int argc, char **argv) {
     return 2;
   }
   read_job_a(argv[1]);
-  reader();
+  layout();
+  number_reader();
+  account_reader();
+  refusal_texts();
   null_pointers();
   job_lengths();
   account_lengths();

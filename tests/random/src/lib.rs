@@ -1,9 +1,14 @@
-//! The kernel as a host sees it: `hnho_solve` of include/hnho.h behind a safe function.
+//! The kernel as a host sees it: `hnho_solve` and `hnho_read_account` of include/hnho.h behind safe functions, and what the second
+//! implementation says of its answers.
 
-use second::account::{Account, Answer, Governing, State, Traffic};
+pub mod header;
 
-/// Bytes of an account: 70 numbers.
-pub const ACCOUNT_BYTES: usize = 560;
+pub use header::ACCOUNT_BYTES;
+use second::account::{Account, Answer, Governing, Stand, State, Traffic};
+use second::checker;
+use second::job::Job;
+use second::lanes::lane_count;
+use second::words::words_of;
 
 extern "C" {
     fn hnho_solve(
@@ -31,56 +36,127 @@ pub fn call(job: &[u8], patch: &mut [u8], account: &mut [u8]) -> u64 {
     }
 }
 
-/// The kernel's answer to a job, read back out of the account's bytes.
+/// The kernel's answer to a job.
 pub fn solve(job: &[u8], patch: &mut [u8]) -> Answer {
+    solve_and_read(job, patch).0
+}
+
+/// The kernel's answer to a job, where every number of it and every patch byte is right; else what is wrong first.
+pub fn judged(job: &[u8], patch: &[u8]) -> Result<Answer, String> {
+    let mut after = patch.to_vec();
+    let (answer, read) = solve_and_read(job, &mut after);
+    checker::check(job, patch, &after, &answer)?;
+    check_rest(job, answer.refusal != 0, &read)?;
+    Ok(answer)
+}
+
+/// The answer in document 01's terms, and all that the header's reader takes out of the account.
+fn solve_and_read(job: &[u8], patch: &mut [u8]) -> (Answer, header::Account) {
     let mut bytes = [0xa5u8; ACCOUNT_BYTES];
     let result = call(job, patch, &mut bytes);
-    Answer {
+    let read = header::read(&bytes);
+    let answer = Answer {
         refusal: result & 255,
         place: result >> 8,
-        account: account(&bytes),
+        account: account(&read),
+    };
+    (answer, read)
+}
+
+fn account(read: &header::Account) -> Account {
+    Account {
+        normal_greatest: traffic(read.normal_greatest, &read.normal_greatest_placement),
+        normal_least: traffic(read.normal_least, &read.normal_least_placement),
+        overload_greatest: traffic(read.overload_greatest, &read.overload_greatest_placement),
+        overload_least: traffic(read.overload_least, &read.overload_least_placement),
+        raising: stand(&read.raising),
+        lowering: stand(&read.lowering),
+        service: state(&read.service),
+        ultimate: state(&read.ultimate),
     }
 }
 
-fn account(bytes: &[u8; ACCOUNT_BYTES]) -> Account {
-    let number =
-        |k: usize| i64::from_le_bytes(bytes[8 * k..8 * k + 8].try_into().expect("8 bytes"));
-    let small = |k: usize| u32::try_from(number(k)).expect("a number below 2^32");
-    let traffic = |value: usize, placement: usize| {
-        let mut traffic = Traffic {
-            value: number(value),
-            set: small(placement),
-            ..Traffic::default()
-        };
-        for (i, lane) in traffic.lanes.iter_mut().enumerate() {
-            lane.entry = small(placement + 1 + 2 * i);
-            lane.centre = number(placement + 2 + 2 * i);
+fn small(number: i64) -> u32 {
+    u32::try_from(number).expect("a number from 0 to 2^32 - 1")
+}
+
+fn traffic(value: i64, placement: &header::Placement) -> Traffic {
+    let mut traffic = Traffic {
+        value,
+        set: small(placement.set),
+        ..Traffic::default()
+    };
+    for (lane, read) in traffic.lanes.iter_mut().zip(&placement.lane) {
+        lane.entry = small(read.entry);
+        lane.centre = read.centre;
+    }
+    traffic
+}
+
+fn stand(position: &header::Position) -> Stand {
+    Stand {
+        station: position.station,
+        side: small(position.side),
+    }
+}
+
+fn state(read: &header::State) -> State {
+    State {
+        present: small(read.reported),
+        greatest: governing(&read.greatest),
+        least: governing(&read.least),
+    }
+}
+
+fn governing(read: &header::Governing) -> Governing {
+    Governing {
+        value: read.value,
+        row: small(read.row),
+        omitted: small(read.left_out),
+        traffic_left_out: small(read.unladen),
+    }
+}
+
+/// Whether what an account has beside document 01's is right: the number of lanes (0 on a refusal), nothing on lanes past them, and
+/// 0 in what is reserved.
+fn check_rest(job: &[u8], refused: bool, read: &header::Account) -> Result<(), String> {
+    let lanes = if refused {
+        0
+    } else {
+        lane_count(Job::decode(&words_of(job)).width)
+    };
+    same("first_lanes", read.first_lanes, lanes as i64)?;
+    zero("second_lanes", read.second_lanes)?;
+    zero("records_walked", read.records_walked)?;
+    for placement in [
+        &read.normal_greatest_placement,
+        &read.normal_least_placement,
+        &read.overload_greatest_placement,
+        &read.overload_least_placement,
+    ] {
+        for (number, lane) in (1..).zip(&placement.lane) {
+            zero(&format!("lane {number}'s factor"), lane.factor)?;
+            if number > lanes {
+                zero(&format!("lane {number}'s entry"), lane.entry)?;
+                zero(&format!("lane {number}'s centre"), lane.centre)?;
+            }
         }
-        traffic
-    };
-    let governing = |at: usize| Governing {
-        value: number(at),
-        row: small(at + 1),
-        omitted: small(at + 2),
-        traffic_left_out: small(at + 3),
-    };
-    let state = |at: usize| State {
-        present: small(at),
-        greatest: governing(at + 1),
-        least: governing(at + 5),
-    };
-    let mut account = Account {
-        normal_greatest: traffic(0, 8),
-        normal_least: traffic(1, 19),
-        overload_greatest: traffic(2, 30),
-        overload_least: traffic(3, 41),
-        service: state(52),
-        ultimate: state(61),
-        ..Account::default()
-    };
-    account.raising.station = number(4);
-    account.raising.side = small(5);
-    account.lowering.station = number(6);
-    account.lowering.side = small(7);
-    account
+    }
+    for state in [&read.service, &read.ultimate] {
+        zero("the greatest's k", state.greatest.k)?;
+        zero("the least's k", state.least.k)?;
+    }
+    Ok(())
+}
+
+fn zero(what: &str, number: i64) -> Result<(), String> {
+    same(what, number, 0)
+}
+
+fn same(what: &str, found: i64, due: i64) -> Result<(), String> {
+    if found == due {
+        Ok(())
+    } else {
+        Err(format!("{what} is {found}, {due} is due"))
+    }
 }

@@ -1,10 +1,10 @@
 //! The kernel agrees with the second implementation on generated jobs, and no drawn arrangement beats a report.
 
-use random::{call, solve, ACCOUNT_BYTES};
+use random::{call, judged, solve, ACCOUNT_BYTES};
 use second::generator::{case, Case, Edition};
 use second::job::Job;
 use second::words::words_of;
-use second::{checker, chosen, sampler};
+use second::{chosen, sampler};
 
 /// Checks COUNT cases of each edition from SEED on (environment, with these defaults).
 fn asked(name: &str, default: u64) -> u64 {
@@ -18,10 +18,7 @@ fn asked(name: &str, default: u64) -> u64 {
 
 /// The refusal of a case, 0 for an accepted one, where the kernel's answer is right.
 fn agreed_refusal(case: &Case) -> Result<u64, String> {
-    let mut patch = case.patch.clone();
-    let answer = solve(&case.job, &mut patch);
-    checker::check(&case.job, &case.patch, &patch, &answer)?;
-    Ok(answer.refusal)
+    Ok(judged(&case.job, &case.patch)?.refusal)
 }
 
 #[test]
