@@ -1,6 +1,7 @@
 #!/usr/bin/env bash
 # The C side: packages the kernel, compiles the header and the C files with warnings as errors, runs them under the address and
-# undefined-behaviour sanitizers and holds the example's output to examples/host.expected. Its products are in target/c.
+# undefined-behaviour sanitizers and holds the example's output to examples/host.expected and the stored cases' to crates/replay/stdout.
+# Its products are in target/c.
 set -u
 cd "$(dirname "$0")/.." || exit 2
 
@@ -36,6 +37,11 @@ example() {
   target/c/host >target/c/host.out && diff -u examples/host.expected target/c/host.out
 }
 
+# the archive answers the stored cases as is due for them
+stored() {
+  target/c/stored_calls crates/replay/data/jobs >target/c/stored_calls.out && cmp target/c/stored_calls.out crates/replay/stdout
+}
+
 step 'the package' tools/package
 step 'the folder target/c' mkdir -p target/c
 printf '#include "hnho.h"\n' >target/c/header.c
@@ -50,4 +56,6 @@ step 'compiling examples/host.c' compile examples/host.c target/c/host
 step 'the output of examples/host.c' example
 step 'compiling tests/host_edges.c' compile tests/host_edges.c target/c/host_edges
 step 'tests/host_edges.c' target/c/host_edges examples/job-a.bin
-printf 'c.sh: the header, the example host and the edges are as due\n'
+step 'compiling tests/stored_calls.c' compile tests/stored_calls.c target/c/stored_calls
+step 'the stored cases' stored
+printf 'c.sh: the header, the example host, the edges and the stored cases are as due\n'
