@@ -7,6 +7,7 @@
 pub mod account;
 pub mod arrangement;
 pub mod checker;
+pub mod chosen;
 pub mod fraction;
 pub mod generator;
 pub mod job;

@@ -1,8 +1,9 @@
 //! 01 "The host and the program": reads a job from standard input and prints
 //! its four lines, or `refused NUMBER at PLACE`. Further commands are in USAGE.
 
+use second::generator::{self, Edition};
 use second::job::Job;
-use second::{generator, job_a, report, sampler, solve, store, words};
+use second::{job_a, report, sampler, solve, store, words};
 use std::fs;
 use std::io::{self, Read, Write};
 use std::path::Path;
@@ -13,11 +14,12 @@ const USAGE: &str = "usage:
   second account < JOB             print them with the placements and omissions
   second beat SEED TRIES < JOB     try to beat the job's account by random draws
   second job-a                     write Job A's bytes to standard output
-  second generate SEED COUNT DIR   write COUNT cases from SEED on into DIR,
-                                   as SEED.job and SEED.patch
-  second store SEED COUNT DIR      write COUNT cases from SEED on, most of them
-                                   short, into DIR/jobs, and what is due for
-                                   each into DIR/expected
+  second generate EDITION SEED COUNT DIR
+                                   write COUNT cases of EDITION's stream from
+                                   SEED on into DIR, as SEED.job and SEED.patch;
+                                   EDITION is 1
+  second store DIR                 write the cases to store into DIR/jobs, and
+                                   what is due for each into DIR/expected
 ";
 
 /// The most bytes of standard input that are read.
@@ -65,13 +67,11 @@ fn run(arguments: &[&str]) -> Result<(), Failure> {
             beat(number(seed)?, tries)
         }
         ["job-a"] => write_out(&job_a::job_a().bytes()),
-        ["generate", seed, count, directory] => {
-            generate(number(seed)?, number(count)?, Path::new(directory))
+        ["generate", edition, seed, count, directory] => {
+            let edition = Edition::of_number(number(edition)?).ok_or(Failure::Usage)?;
+            generate(edition, number(seed)?, number(count)?, Path::new(directory))
         }
-        ["store", seed, count, directory] => {
-            let count = usize::try_from(number(count)?).map_err(|_| Failure::Usage)?;
-            store(number(seed)?, count, Path::new(directory))
-        }
+        ["store", directory] => store(Path::new(directory)),
         _ => Err(Failure::Usage),
     }
 }
@@ -93,10 +93,10 @@ fn beat(seed: u64, tries: u32) -> Result<(), Failure> {
     }
 }
 
-fn generate(first: u64, count: u64, directory: &Path) -> Result<(), Failure> {
+fn generate(edition: Edition, first: u64, count: u64, directory: &Path) -> Result<(), Failure> {
     let past_last = first.checked_add(count).ok_or(Failure::Usage)?;
     for seed in first..past_last {
-        let case = generator::case(seed);
+        let case = generator::case(edition, seed);
         for (ending, bytes) in [("job", &case.job), ("patch", &case.patch)] {
             write_file(&directory.join(format!("{seed}.{ending}")), bytes)?;
         }
@@ -104,8 +104,8 @@ fn generate(first: u64, count: u64, directory: &Path) -> Result<(), Failure> {
     Ok(())
 }
 
-fn store(first: u64, count: usize, directory: &Path) -> Result<(), Failure> {
-    let stored = store::stored(first, count).ok_or(Failure::Usage)?;
+fn store(directory: &Path) -> Result<(), Failure> {
+    let stored = store::stored();
     write_file(&directory.join("jobs"), &stored.jobs)?;
     write_file(&directory.join("expected"), stored.expected.as_bytes())
 }

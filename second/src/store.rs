@@ -1,6 +1,7 @@
 //! Cases in one file, and in another what is due for each.
 
-use crate::generator::{self, Case};
+use crate::chosen;
+use crate::generator::{self, Case, Edition};
 use crate::report::report;
 use crate::solve::solve;
 
@@ -13,18 +14,23 @@ pub struct Stored {
     pub expected: String,
 }
 
-/// The first `count` cases to store from the seed `first` on; none where the
-/// seeds give out before.
-pub fn stored(first: u64, count: usize) -> Option<Stored> {
-    let mut cases = cases(first);
+/// All cases to store.
+pub fn stored() -> Stored {
     let mut stored = Stored::default();
-    for _ in 0..count {
-        let case = cases.next()?;
+    for case in cases() {
         stored.jobs.extend(case_bytes(&case));
         stored.expected += &case_lines(&case);
     }
-    Some(stored)
+    stored
 }
+
+/// The cases to store: the generated ones, then those chosen by hand.
+pub fn cases() -> impl Iterator<Item = Case> {
+    generated_cases().chain(chosen::cases())
+}
+
+/// Edition 1's cases that are stored.
+const GENERATED_CASES: usize = 1700;
 
 /// The most bytes of a case that is stored whatever its seed.
 const SHORT_CASE_BYTES: usize = 400;
@@ -32,14 +38,15 @@ const SHORT_CASE_BYTES: usize = 400;
 /// Of the seeds of longer cases, one in so many is stored.
 const LONG_CASE_SEEDS: u64 = 32;
 
-/// The cases to store from a seed on: every short one and few of the others,
-/// so that many fit in a small file.
-pub fn cases(first: u64) -> impl Iterator<Item = Case> {
-    (first..=u64::MAX).filter_map(|seed| {
-        let case = generator::case(seed);
+/// Edition 1's first cases from seed 0 on: every short one and few of the
+/// others, so that many fit in a small file.
+pub fn generated_cases() -> impl Iterator<Item = Case> {
+    let to_store = |seed: u64| {
+        let case = generator::case(Edition::One, seed);
         let short = case.job.len() + case.patch.len() <= SHORT_CASE_BYTES;
         (short || seed.is_multiple_of(LONG_CASE_SEEDS)).then_some(case)
-    })
+    };
+    (0..).filter_map(to_store).take(GENERATED_CASES)
 }
 
 /// The job's length and the patch buffer's, in two bytes each, low byte first;

@@ -3,13 +3,13 @@
 
 mod common;
 
-use common::{level_job, pieces, two_lane_job};
+use common::{definition, level_job, pieces, two_lane_job};
 use second::account::{Lane, State};
 use second::checker::check;
-use second::generator::case;
+use second::generator::{case, Edition};
 use second::job::Job;
 use second::job_a::job_a;
-use second::{solve, Answer};
+use second::{chosen, solve, Answer};
 
 /// What a kernel gave for a job, with the patch buffer before and after.
 #[derive(Clone)]
@@ -69,12 +69,15 @@ fn refuses(call: &Call, changes: &[(&str, Change)]) {
     }
 }
 
+/// What is due by the definitions alone passes, with the solver's placements
+/// and omissions: for generated cases by seed, then for the chosen ones.
 #[test]
-fn right_answers_to_generated_cases_pass() {
-    for seed in 0..2000 {
-        let case = case(seed);
-        let call = Call::new(&case.job, &case.patch);
-        assert_eq!(call.check(), Ok(()), "seed {seed}");
+fn right_answers_to_generated_and_chosen_cases_pass() {
+    let generated = (0..2000).map(|seed| case(Edition::One, seed));
+    for (number, case) in generated.chain(chosen::cases()).enumerate() {
+        let mut call = Call::new(&case.job, &case.patch);
+        (call.answer, call.after) = definition::due(&case.job, &case.patch, &call.answer);
+        assert_eq!(call.check(), Ok(()), "case {number}");
     }
 }
 
@@ -538,7 +541,7 @@ fn equally_good_omissions_are_free() {
 #[test]
 fn no_changed_value_or_row_passes() {
     for seed in 0..500 {
-        let case = case(seed);
+        let case = case(Edition::One, seed);
         let call = Call::new(&case.job, &case.patch);
         let changes: [Change; 10] = [
             |call| call.answer.account.normal_greatest.value -= 1,

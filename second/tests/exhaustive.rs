@@ -3,11 +3,11 @@
 
 mod common;
 
-use common::{level_job, pieces};
+use common::{definition, level_job, pieces};
 use second::arrangement::{Arrangement, LoadedLane};
 use second::job::Job;
 use second::loads::{Element, Live, Question, Side};
-use second::solve::account_of;
+use second::solve;
 
 /// Every set of k-ths of the line.
 fn every_loading(k_ths: i128) -> Vec<Vec<std::ops::Range<i128>>> {
@@ -77,11 +77,21 @@ impl Furthest {
         self.least = self.least.min(effect.round(Question::Least));
     }
 
+    /// The solver reports it, and the definitions make it due.
     fn is_reported(&self, job: &Job) {
-        let account = account_of(job);
-        let reported = |question| i128::from(account.traffic(self.live, question).value);
-        let due = (reported(Question::Greatest), reported(Question::Least));
-        assert_eq!((self.greatest, self.least), due, "{:?}", self.live);
+        let (bytes, patch) = (job.bytes(), vec![0; job.pieces.len()]);
+        let reported = solve(&bytes, &mut patch.clone());
+        let (due, _) = definition::due(&bytes, &patch, &reported);
+        for (source, answer) in [("reported", reported), ("due", due)] {
+            let value = |question| i128::from(answer.account.traffic(self.live, question).value);
+            let values = (value(Question::Greatest), value(Question::Least));
+            assert_eq!(
+                (self.greatest, self.least),
+                values,
+                "{:?} {source}",
+                self.live
+            );
+        }
     }
 }
 

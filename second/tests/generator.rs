@@ -2,7 +2,8 @@
 //! every shape of job and outcome.
 
 use second::account::Account;
-use second::generator::{case, damaged, Case};
+use second::generator::edition_1::damaged;
+use second::generator::{case, Case, Edition};
 use second::job::Job;
 use second::lanes::lane_count;
 use second::line::{pair_ordinates, patch_byte, pieces_between_axles, stations, Stand};
@@ -436,7 +437,7 @@ fn expected_labels() -> BTreeSet<String> {
 fn the_cases_reach_every_refusal_and_shape() {
     let mut reached = BTreeSet::new();
     for seed in 0..CASES {
-        let case = case(seed);
+        let case = case(Edition::One, seed);
         let answer = solve(&case.job, &mut case.patch.clone());
         reached.extend(labels(&case, &answer));
     }
@@ -444,13 +445,10 @@ fn the_cases_reach_every_refusal_and_shape() {
     assert!(missed.is_empty(), "never reached: {missed:?}");
 }
 
-/// The count that tests/stored.sh of the kernel stores from seed 0 on.
-const STORED_CASES: usize = 1700;
-
 #[test]
 fn the_stored_cases_reach_every_refusal_and_shape() {
     let mut reached = BTreeSet::new();
-    for case in second::store::cases(0).take(STORED_CASES) {
+    for case in second::store::generated_cases() {
         let answer = solve(&case.job, &mut case.patch.clone());
         reached.extend(labels(&case, &answer));
     }
@@ -486,12 +484,13 @@ fn two_faults_give_the_lower_refusal() {
     }
 }
 
-/// A seed's case is fixed: this sum over many cases (FNV-1a) never changes.
+/// A seed's case is fixed: this sum over many cases (FNV-1a) never changes,
+/// whatever other editions bring.
 #[test]
-fn the_cases_never_change() {
+fn the_cases_of_edition_1_never_change() {
     let mut sum = 0xcbf2_9ce4_8422_2325_u64;
     for seed in 0..2000 {
-        let case = case(seed);
+        let case = case(Edition::One, seed);
         for byte in case.job.into_iter().chain(case.patch) {
             sum = (sum ^ u64::from(byte)).wrapping_mul(0x0000_0100_0000_01B3);
         }

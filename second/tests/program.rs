@@ -1,5 +1,6 @@
 //! 01 "The host and the program": the program as a whole.
 
+use second::generator::{case, Edition};
 use std::fs::{self, File};
 use std::path::PathBuf;
 use std::process::{Command, Output, Stdio};
@@ -162,18 +163,18 @@ fn generate_writes_the_cases_of_its_seeds() {
     let directory = scratch("generated");
     fs::create_dir_all(&directory).unwrap();
     let output = second(
-        &["generate", "7", "3", directory.to_str().unwrap()],
+        &["generate", "1", "7", "3", directory.to_str().unwrap()],
         Stdio::null(),
     );
     prints(&output, "");
     for seed in 7..10 {
-        let case = second::generator::case(seed);
+        let case = case(Edition::One, seed);
         let file = |ending: &str| fs::read(directory.join(format!("{seed}.{ending}"))).unwrap();
         assert_eq!((file("job"), file("patch")), (case.job, case.patch));
     }
     let missing = scratch("missing-directory");
     let output = second(
-        &["generate", "7", "1", missing.to_str().unwrap()],
+        &["generate", "1", "7", "1", missing.to_str().unwrap()],
         Stdio::null(),
     );
     assert_eq!(output.status.code(), Some(1));
@@ -185,14 +186,11 @@ fn generate_writes_the_cases_of_its_seeds() {
 fn store_writes_cases_and_what_is_due_for_each() {
     let directory = scratch("stored");
     fs::create_dir_all(&directory).unwrap();
-    let output = second(
-        &["store", "7", "40", directory.to_str().unwrap()],
-        Stdio::null(),
-    );
+    let output = second(&["store", directory.to_str().unwrap()], Stdio::null());
     prints(&output, "");
     let mut jobs = &fs::read(directory.join("jobs")).unwrap()[..];
     let mut due = String::new();
-    for case in second::store::cases(7).take(40) {
+    for case in second::store::cases() {
         let length = |at: usize| usize::from(u16::from_le_bytes([jobs[at], jobs[at + 1]]));
         let (job_bytes, patch_bytes) = (length(0), length(2));
         let (patch, rest) = jobs[4..].split_at(patch_bytes);
@@ -217,12 +215,14 @@ fn unknown_arguments_are_a_usage_error() {
         &["job-a", "more"],
         &["--help"],
         &[""],
-        &["generate", "1", "2"],
-        &["generate", "-1", "2", "."],
-        &["store", "1", "2"],
-        &["store", "1", "-2", "."],
-        &["store", "18446744073709551615", "2", "."],
-        &["generate", "18446744073709551615", "1", "."],
+        &["generate", "1", "1", "2"],
+        &["generate", "7", "1", "."],
+        &["generate", "1", "-1", "2", "."],
+        &["generate", "0", "1", "1", "."],
+        &["generate", "2", "1", "1", "."],
+        &["store"],
+        &["store", "0", "1700", "."],
+        &["generate", "1", "18446744073709551615", "1", "."],
         &["beat", "1", "4294967296"],
         &["beat", "one", "1"],
     ] {

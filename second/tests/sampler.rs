@@ -5,7 +5,7 @@ mod common;
 
 use common::{level_job, pieces, two_lane_job};
 use second::account::{Account, State};
-use second::generator::sound_job;
+use second::generator::edition_1::sound_job;
 use second::job::Job;
 use second::job_a::job_a;
 use second::lanes::{breakpoint_centres, centre_limits, lane_count, transverse_ordinate};

@@ -1,6 +1,8 @@
-//! Jobs shared by several tests.
+//! Jobs shared by several tests, and what is due for any job.
 
 #![allow(dead_code)] // Each test file uses some of these.
+
+pub mod definition;
 
 use second::job::{
     Effect, Job, Piece, Record, Row, ALWAYS_PRESENT, LIVE_NONE, LIVE_NORMAL, LIVE_OVERLOAD,

@@ -1,11 +1,12 @@
 //! The kernel agrees with the second implementation on generated jobs, and no drawn arrangement beats a report.
 
 use random::{call, solve, ACCOUNT_BYTES};
+use second::generator::{case, Edition};
 use second::job::Job;
 use second::words::words_of;
-use second::{checker, generator, sampler};
+use second::{checker, sampler};
 
-/// Checks COUNT cases from SEED on (environment, with these defaults).
+/// Checks COUNT cases of each edition from SEED on (environment, with these defaults).
 fn asked(name: &str, default: u64) -> u64 {
     match std::env::var(name) {
         Ok(text) => text
@@ -19,22 +20,25 @@ fn asked(name: &str, default: u64) -> u64 {
 fn kernel_and_second_implementation_agree() {
     let first = asked("SEED", 0);
     let count = asked("COUNT", 100_000);
-    let mut refused = [0u64; 10];
-    for seed in first..first + count {
-        let case = generator::case(seed);
-        let mut patch = case.patch.clone();
-        let answer = solve(&case.job, &mut patch);
-        if let Err(fault) = checker::check(&case.job, &case.patch, &patch, &answer) {
-            panic!("seed {seed}: {fault}");
+    for edition in Edition::ALL {
+        let number = edition.number();
+        let mut refused = [0u64; 10];
+        for seed in first..first + count {
+            let case = case(edition, seed);
+            let mut patch = case.patch.clone();
+            let answer = solve(&case.job, &mut patch);
+            if let Err(fault) = checker::check(&case.job, &case.patch, &patch, &answer) {
+                panic!("edition {number}, seed {seed}: {fault}");
+            }
+            refused[answer.refusal as usize] += 1;
         }
-        refused[answer.refusal as usize] += 1;
-    }
-    println!("{count} cases from seed {first}, by refusal {refused:?}");
-    if count >= 10_000 {
-        assert!(
-            refused.iter().all(|&n| n > 0),
-            "a refusal was never met: {refused:?}"
-        );
+        println!("edition {number}, {count} cases from seed {first}, by refusal {refused:?}");
+        if count >= 10_000 {
+            assert!(
+                refused.iter().all(|&n| n > 0),
+                "edition {number}: a refusal was never met: {refused:?}"
+            );
+        }
     }
 }
 
@@ -42,7 +46,7 @@ fn kernel_and_second_implementation_agree() {
 fn no_drawn_arrangement_beats_a_report() {
     let mut accepted = 0;
     for seed in 0..asked("DRAWN", 2_000) {
-        let case = generator::case(seed);
+        let case = case(Edition::One, seed);
         let answer = solve(&case.job, &mut case.patch.clone());
         if answer.refusal != 0 {
             continue;
@@ -58,7 +62,7 @@ fn no_drawn_arrangement_beats_a_report() {
 
 #[test]
 fn short_account_buffers_are_cleared() {
-    let case = generator::case(0);
+    let case = case(Edition::One, 0);
     for length in 0..ACCOUNT_BYTES {
         let mut patch = case.patch.clone();
         let mut account = vec![0xa5u8; length];
@@ -71,7 +75,7 @@ fn short_account_buffers_are_cleared() {
 #[test]
 fn bytes_past_an_account_stay() {
     for seed in 0..200 {
-        let case = generator::case(seed);
+        let case = case(Edition::One, seed);
         let mut account = vec![0xa5u8; ACCOUNT_BYTES + 16];
         call(&case.job, &mut case.patch.clone(), &mut account);
         assert!(account[ACCOUNT_BYTES..].iter().all(|&byte| byte == 0xa5));

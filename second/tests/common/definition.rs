@@ -1,0 +1,381 @@
+//! What 01 makes due for a job, by trying everything that it names: every
+//! station and side, every centre in n-ths of a cm, every lane set and HO lane,
+//! every row with every omission. Of the crate only the shape of an answer is
+//! used, so a slip in the solver, or in what the solver and the checker share,
+//! shows beside it.
+
+use second::account::{Answer, State};
+use std::collections::{BTreeMap, BTreeSet};
+
+/// A call's answer and patch buffer, with all that is due in its place: the
+/// refusal, or the values, the governing rows and the patch bytes. The
+/// placements and omissions given are kept where the job is accepted.
+pub fn due(job: &[u8], before: &[u8], given: &Answer) -> (Answer, Vec<u8>) {
+    let words: Vec<i64> = job
+        .chunks_exact(4)
+        .map(|word| i32::from_le_bytes(word.try_into().unwrap()).into())
+        .collect();
+    if let Some((refusal, place)) = refusal(job.len(), &words, before.len()) {
+        let refused = Answer {
+            refusal,
+            place: place as u64,
+            ..Answer::default()
+        };
+        return (refused, before.to_vec());
+    }
+    let job = Parts::of(&words);
+    let mut answer = Answer {
+        refusal: 0,
+        place: 0,
+        ..*given
+    };
+    let account = &mut answer.account;
+    let [normal, overload] = traffic(&job);
+    account.normal_greatest.value = normal.greatest;
+    account.normal_least.value = normal.least;
+    account.overload_greatest.value = overload.greatest;
+    account.overload_least.value = overload.least;
+    put_state(&job, 1, [normal, overload], &mut account.service);
+    put_state(&job, 2, [normal, overload], &mut account.ultimate);
+
+    let mut after = before.to_vec();
+    for (byte, piece) in after.iter_mut().zip(job.line.chunks(2)) {
+        let sum = piece[0] + piece[1];
+        *byte = u8::from(sum > 0) + 2 * u8::from(sum < 0);
+    }
+    (answer, after)
+}
+
+/// A job's words, by section.
+struct Parts<'a> {
+    header: &'a [i64],
+    line: &'a [i64],
+    transverse: &'a [i64],
+    effects: &'a [i64],
+    rows: &'a [i64],
+    records: &'a [i64],
+}
+
+impl Parts<'_> {
+    /// The sections of as many words as the header calls for.
+    fn of(words: &[i64]) -> Parts<'_> {
+        let (header, rest) = words.split_at(10);
+        let [line, transverse, effects, rows, _] = section_lengths(header);
+        let (line, rest) = rest.split_at(line);
+        let (transverse, rest) = rest.split_at(transverse);
+        let (effects, rest) = rest.split_at(effects);
+        let (rows, records) = rest.split_at(rows);
+        Parts {
+            header,
+            line,
+            transverse,
+            effects,
+            rows,
+            records,
+        }
+    }
+
+    /// The records from this one on, each as its three words. One more than
+    /// there are shows that the chain comes back to a record.
+    fn chain(&self, first: i64) -> Vec<&[i64]> {
+        let mut chain = vec![];
+        let mut number = first;
+        while number != 0 && chain.len() * 3 <= self.records.len() {
+            let record = &self.records[3 * (number as usize - 1)..][..3];
+            chain.push(record);
+            number = record[2];
+        }
+        chain
+    }
+}
+
+fn section_lengths(header: &[i64]) -> [usize; 5] {
+    let [pieces, spacing, width] = [header[2], header[3], header[4]];
+    let [effects, rows, records] = [header[7], header[8], header[9]];
+    let spaces = width / spacing + i64::from(width % spacing != 0);
+    [2 * pieces, spaces + 1, 2 * effects, 4 * rows, 3 * records].map(|words| words as usize)
+}
+
+/// The lowest refusal with its lowest place.
+fn refusal(bytes: usize, words: &[i64], patch_bytes: usize) -> Option<(u64, usize)> {
+    if words.len() < 10 || bytes % 4 != 0 || words[0] != 1 {
+        return Some((1, 0));
+    }
+    let header_place = (1..10).find(|&place| !header_word_is_lawful(words, place));
+    if let Some(place) = header_place {
+        return Some((2, place));
+    }
+    let words_due = 10 + section_lengths(words).iter().sum::<usize>();
+    if words.len() != words_due {
+        return Some((3, words_due));
+    }
+
+    let job = Parts::of(words);
+    let mut faults = vec![];
+    let mut start = 10;
+    let sections = [
+        (job.line, 2),
+        (job.transverse, 1),
+        (job.effects, 2),
+        (job.rows, 4),
+        (job.records, 3),
+    ];
+    for (number, (section, each)) in sections.into_iter().enumerate() {
+        for (at, group) in section.chunks(each).enumerate() {
+            let place = start + at * each;
+            for (within, &word) in group.iter().enumerate() {
+                let (from, to) = limits(words, number, within, group);
+                if word < from || word > to {
+                    faults.push((if number < 2 { 4 } else { 6 }, place + within));
+                }
+            }
+            if number == 0 && group[0] * group[1] < 0 {
+                faults.push((5, place));
+            }
+        }
+        start += section.len();
+    }
+    if faults.is_empty() {
+        let rows_start = 10 + job.line.len() + job.transverse.len() + job.effects.len();
+        for (at, row) in job.rows.chunks(4).enumerate() {
+            let chain = job.chain(row[3]);
+            let named: BTreeSet<i64> = chain.iter().map(|record| record[0]).collect();
+            if chain.len() * 3 > job.records.len() {
+                faults.push((7, rows_start + 4 * at));
+            } else if named.len() < chain.len() {
+                faults.push((8, rows_start + 4 * at));
+            }
+        }
+    }
+    let pieces = words[2] as usize;
+    if patch_bytes < pieces {
+        faults.push((9, pieces));
+    }
+    faults.into_iter().min()
+}
+
+fn header_word_is_lawful(words: &[i64], place: usize) -> bool {
+    let word = words[place];
+    let (from, to) = match place {
+        1 => return [1, 2, 5, 10, 25, 50].contains(&word),
+        2 if word * words[1] > 1000 => return false,
+        2 => (1, 1000),
+        3 => (10, 50),
+        4 => (300, 2079),
+        5 => (1, 3),
+        6 => [(1000, 1300), (0, 0), (0, 5000)][words[5] as usize - 1],
+        7 => (0, 16),
+        8 => (1, 32),
+        _ => (0, 512),
+    };
+    from <= word && word <= to
+}
+
+/// The limits of a word within a piece, an effect, a row or a record.
+fn limits(header: &[i64], section: usize, within: usize, group: &[i64]) -> (i64, i64) {
+    let (effects, records) = (header[7], header[9]);
+    match (section, within) {
+        (0, _) => (-5000, 5000),
+        (1, _) => (-1000, 1000),
+        (2, 0) => (-1_000_000_000, 1_000_000_000),
+        (2, _) | (3, 0) => (1, 2),
+        (3, 1) => (0, 2),
+        (3, 2) if group[1] == 0 => (0, 0),
+        (3, 3) | (4, 2) => (0, records),
+        (4, 0) => (1, effects),
+        _ => (0, 3000),
+    }
+}
+
+/// The greatest and the least of what was tried.
+#[derive(Clone, Copy)]
+struct Furthest {
+    greatest: i64,
+    least: i64,
+}
+
+impl Furthest {
+    const NOTHING_TRIED: Furthest = Furthest {
+        greatest: i64::MIN,
+        least: i64::MAX,
+    };
+
+    fn take(&mut self, greatest: i64, least: i64) {
+        self.greatest = self.greatest.max(greatest);
+        self.least = self.least.min(least);
+    }
+}
+
+/// r in twentieths for 1 to 5 lanes.
+const R: [i64; 6] = [0, 20, 18, 16, 14, 12];
+
+/// Normal and overload, over every lane set and every HO lane in it.
+fn traffic(job: &Parts) -> [Furthest; 2] {
+    let [kind, value] = [job.header[5], job.header[6]];
+    let dynamic = match kind {
+        1 => value,
+        2 => 1000,
+        _ => i64::max(1000, 1300 - 3 * value),
+    };
+    let n = lanes(job);
+    let pair_sums = pair_sums(job);
+    let in_lanes = |axle: i64| -> Vec<Furthest> {
+        (0..n)
+            .map(|lane| in_lane(job, lane, axle, &pair_sums))
+            .collect()
+    };
+    let (hn, ho) = (in_lanes(1600), in_lanes(3200));
+    // What stands in a lane carries n times g from its transverse ordinate.
+    let over = i128::from(800_000 * n * job.header[3]);
+    let effect = |twentieths: Furthest| {
+        let [greatest, least] = [twentieths.greatest, twentieths.least]
+            .map(|sum| 3 * i128::from(sum) * i128::from(dynamic));
+        let up = greatest / over + i128::from(greatest % over > 0);
+        let down = least / over - i128::from(least % over < 0);
+        Furthest {
+            greatest: up as i64,
+            least: down as i64,
+        }
+    };
+    let sum_at_r = |lanes: &[usize]| Furthest {
+        greatest: R[lanes.len()] * lanes.iter().map(|&lane| hn[lane].greatest).sum::<i64>(),
+        least: R[lanes.len()] * lanes.iter().map(|&lane| hn[lane].least).sum::<i64>(),
+    };
+
+    let mut normal = Furthest::NOTHING_TRIED;
+    let mut overload = Furthest::NOTHING_TRIED;
+    for set in 0..1_u32 << n {
+        let loaded: Vec<usize> = (0..n as usize)
+            .filter(|lane| set >> lane & 1 == 1)
+            .collect();
+        let tried = effect(sum_at_r(&loaded));
+        normal.take(tried.greatest, tried.least);
+        for &ho_lane in &loaded {
+            let mut others = loaded.clone();
+            others.retain(|&lane| lane != ho_lane);
+            let beside = sum_at_r(&others);
+            let tried = effect(Furthest {
+                greatest: 20 * ho[ho_lane].greatest + beside.greatest,
+                least: 20 * ho[ho_lane].least + beside.least,
+            });
+            overload.take(tried.greatest, tried.least);
+        }
+    }
+    [normal, overload]
+}
+
+fn lanes(job: &Parts) -> i64 {
+    let wide_enough = |from: &&i64| job.header[4] >= **from;
+    1 + [600, 970, 1340, 1710].iter().filter(wide_enough).count() as i64
+}
+
+/// An element in a lane, over every centre, every stand and every piece loaded
+/// or not, in 75 N·U times transverse thousandths, times n times g.
+fn in_lane(job: &Parts, lane: i64, axle: i64, pair_sums: &BTreeSet<i64>) -> Furthest {
+    let pieces = job.line.chunks(2);
+    let uniform: Vec<i64> = pieces
+        .map(|piece| 7 * job.header[1] * (piece[0] + piece[1]))
+        .collect();
+    let mut furthest = Furthest::NOTHING_TRIED;
+    for across in transverse_ordinates(job, lane) {
+        let on_pieces = uniform.iter().map(|piece| piece * across);
+        let greatest: i64 = on_pieces.clone().map(|piece| piece.max(0)).sum();
+        let least: i64 = on_pieces.map(|piece| piece.min(0)).sum();
+        for sum in pair_sums {
+            let axles = axle * sum * across;
+            furthest.take(greatest + axles, least + axles);
+        }
+    }
+    furthest
+}
+
+/// What the ordinates under the two axles add up to, for every station of the
+/// left one and either side. The end of a piece is under the left axle of one
+/// stand and under the right axle of another; off the line the sum is 0.
+fn pair_sums(job: &Parts) -> BTreeSet<i64> {
+    let apart = 50 / job.header[1];
+    let mut stands: BTreeMap<(i64, &str), i64> = BTreeMap::new();
+    for (number, piece) in (0..).zip(job.line.chunks(2)) {
+        for (station, side, ordinate) in
+            [(number, "right", piece[0]), (number + 1, "left", piece[1])]
+        {
+            for left_axle in [station, station - apart] {
+                *stands.entry((left_axle, side)).or_default() += ordinate;
+            }
+        }
+    }
+    stands.into_values().chain([0]).collect()
+}
+
+/// The transverse ordinates, times n times g, at every n-th of a cm of the
+/// carriageway that is 150 cm or more from the lane's edges. Each ordinate of
+/// the job counts in full at its place and fades to 0 over a spacing.
+fn transverse_ordinates(job: &Parts, lane: i64) -> BTreeSet<i64> {
+    let (n, width) = (lanes(job), job.header[4]);
+    let spacing = n * job.header[3];
+    let (left_edge, right_edge) = (lane * width, (lane + 1) * width);
+    let apart = |centre: i64| centre - left_edge >= 150 * n && right_edge - centre >= 150 * n;
+    let centres = (0..=n * width).filter(|&centre| apart(centre));
+    centres
+        .map(|centre| {
+            let ordinates = (0..).zip(job.transverse);
+            let parts = ordinates.map(|(number, ordinate)| {
+                ordinate * i64::max(0, spacing - (centre - number * spacing).abs())
+            });
+            parts.sum::<i64>()
+        })
+        .collect()
+}
+
+/// A state's values and rows, over every row with every omission.
+fn put_state(job: &Parts, state: i64, traffic: [Furthest; 2], reported: &mut State) {
+    let rows = (1..).zip(job.rows.chunks(4));
+    let mut furthest = Furthest::NOTHING_TRIED;
+    let (mut greatest_row, mut least_row) = (0, 0);
+    for (number, row) in rows.filter(|(_, row)| row[0] == state) {
+        let tried = in_row(job, row, traffic);
+        if tried.greatest > furthest.greatest {
+            greatest_row = number;
+        }
+        if tried.least < furthest.least {
+            least_row = number;
+        }
+        furthest.take(tried.greatest, tried.least);
+    }
+    if greatest_row == 0 {
+        *reported = State::default();
+        return;
+    }
+    reported.present = 1;
+    (reported.greatest.value, reported.greatest.row) = (furthest.greatest, greatest_row);
+    (reported.least.value, reported.least.row) = (furthest.least, least_row);
+}
+
+/// A row with each effect marked 2, and the traffic, left out or not.
+fn in_row(job: &Parts, row: &[i64], traffic: [Furthest; 2]) -> Furthest {
+    let mut sums = vec![0];
+    for record in job.chain(row[3]) {
+        let effect = &job.effects[2 * (record[0] as usize - 1)..][..2];
+        let kept: Vec<i64> = sums
+            .iter()
+            .map(|sum| sum + record[1] * 1000 * effect[0])
+            .collect();
+        if effect[1] == 2 {
+            sums.extend(kept);
+        } else {
+            sums = kept;
+        }
+    }
+    let mut furthest = Furthest::NOTHING_TRIED;
+    for sum in sums {
+        furthest.take(sum, sum);
+        if row[1] != 0 {
+            let traffic = traffic[row[1] as usize - 1];
+            furthest.take(
+                sum + row[2] * traffic.greatest,
+                sum + row[2] * traffic.least,
+            );
+        }
+    }
+    furthest
+}
