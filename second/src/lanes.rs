@@ -48,13 +48,14 @@ fn ordinate_step(job: &Job) -> i64 {
     job.spacing * lane_count(job.width) as i64
 }
 
-/// The centres where a lane's ordinate can be greatest or least: its two
-/// limits and every transverse ordinate between them.
+/// The centres where a lane's ordinate can be greatest or least, in rising
+/// order: its two limits and every transverse ordinate between them.
 pub fn breakpoint_centres(job: &Job, lane: usize) -> Vec<i64> {
     let limits = centre_limits(job.width, lane);
     let step = ordinate_step(job);
     let ordinates = (0..job.transverse.len() as i64).map(|number| number * step);
-    let mut centres = vec![*limits.start(), *limits.end()];
+    let mut centres = vec![*limits.start()];
     centres.extend(ordinates.filter(|centre| limits.contains(centre)));
+    centres.push(*limits.end());
     centres
 }

@@ -46,8 +46,9 @@ pub fn stations(job: &Job) -> std::ops::RangeInclusive<i64> {
     -pieces_between_axles(job)..=job.pieces.len() as i64
 }
 
-/// The best stand over all stations and sides. Between stations the sum runs
-/// straight, so none there is better than both its ends.
+/// The best stand over all stations and sides; of equally good ones the lowest
+/// station's, left before right. Between stations the sum runs straight, so
+/// none there is better than both its ends.
 pub fn best_stand(job: &Job, direction: Direction) -> Stand {
     let question = question_of(direction);
     let mut best = Stand {

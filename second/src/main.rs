@@ -3,6 +3,7 @@
 
 use second::generator::{self, Edition};
 use second::job::Job;
+use second::lanes::lane_count;
 use second::{job_a, report, sampler, solve, store, words};
 use std::fs;
 use std::io::{self, Read, Write};
@@ -11,7 +12,7 @@ use std::process::ExitCode;
 
 const USAGE: &str = "usage:
   second < JOB                     print the job's four lines, or its refusal
-  second account < JOB             print them with the placements and omissions
+  second account < JOB             print the whole account, or the refusal
   second beat SEED TRIES < JOB     try to beat the job's account by random draws
   second job-a                     write Job A's bytes to standard output
   second generate EDITION SEED COUNT DIR
@@ -58,10 +59,7 @@ fn run(arguments: &[&str]) -> Result<(), Failure> {
             let answer = solve(&read_job()?, &mut [0; PATCH_BYTES]);
             write_out(report::report(&answer).as_bytes())
         }
-        ["account"] => {
-            let answer = solve(&read_job()?, &mut [0; PATCH_BYTES]);
-            write_out(report::full_report(&answer).as_bytes())
-        }
+        ["account"] => account(),
         ["beat", seed, tries] => {
             let tries = u32::try_from(number(tries)?).map_err(|_| Failure::Usage)?;
             beat(number(seed)?, tries)
@@ -78,6 +76,17 @@ fn run(arguments: &[&str]) -> Result<(), Failure> {
 
 fn number(argument: &str) -> Result<u64, Failure> {
     argument.parse().map_err(|_| Failure::Usage)
+}
+
+fn account() -> Result<(), Failure> {
+    let job = read_job()?;
+    let answer = solve(&job, &mut [0; PATCH_BYTES]);
+    if answer.refusal != 0 {
+        return write_out(report::report(&answer).as_bytes());
+    }
+    let job = Job::decode(&words::words_of(&job));
+    let page = report::page(lane_count(job.width), &answer.account);
+    write_out(page.as_bytes())
 }
 
 fn beat(seed: u64, tries: u32) -> Result<(), Failure> {

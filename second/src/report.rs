@@ -1,7 +1,7 @@
-//! 01 "The host and the program": what the program prints, and the whole
-//! account in words.
+//! 01 "The host and the program": what the program prints, and a page with the
+//! whole account.
 
-use crate::account::{Account, Answer, Governing, Stand, State, Traffic};
+use crate::account::{Account, Answer, Governing, Stand, State, Traffic, UNLOADED};
 
 /// Four lines, or `refused NUMBER at PLACE`; each line ends in a newline.
 pub fn report(answer: &Answer) -> String {
@@ -36,46 +36,27 @@ fn state_line(name: &str, state: &State) -> String {
     )
 }
 
-/// The four lines, then the stands, the four placements and what the governing
-/// rows leave out; a refusal alone.
-pub fn full_report(answer: &Answer) -> String {
-    let mut lines = report(answer);
-    if answer.refusal == 0 {
-        lines += &account_lines(&answer.account);
-    }
-    lines
-}
-
-fn account_lines(account: &Account) -> String {
-    let states = [
-        ("service", &account.service),
-        ("ultimate", &account.ultimate),
-    ];
-    let present = states.iter().filter(|(_, state)| state.present != 0);
-    let omissions = present.map(|(name, state)| {
-        omission_line(&format!("{name} greatest"), &state.greatest)
-            + &omission_line(&format!("{name} least"), &state.least)
-    });
+/// The whole account of an accepted job with this many lanes, as the kernel's
+/// example host prints it.
+pub fn page(lanes: usize, account: &Account) -> String {
     [
-        stand_line("raising", &account.raising),
-        stand_line("lowering", &account.lowering),
-        placement_lines("normal greatest", &account.normal_greatest),
-        placement_lines("normal least", &account.normal_least),
-        placement_lines("overload greatest", &account.overload_greatest),
-        placement_lines("overload least", &account.overload_least),
+        placement_lines("normal greatest", lanes, &account.normal_greatest),
+        placement_lines("normal least", lanes, &account.normal_least),
+        placement_lines("overload greatest", lanes, &account.overload_greatest),
+        placement_lines("overload least", lanes, &account.overload_least),
+        pair_line("raising", &account.raising),
+        pair_line("lowering", &account.lowering),
+        governing_lines("service", &account.service),
+        governing_lines("ultimate", &account.ultimate),
     ]
-    .into_iter()
-    .chain(omissions)
-    .collect()
+    .concat()
 }
 
-fn stand_line(name: &str, stand: &Stand) -> String {
-    let side = ["left", "right"][stand.side as usize];
-    format!("{name} station {} {side}\n", stand.station)
-}
-
-fn placement_lines(name: &str, traffic: &Traffic) -> String {
-    let mut lines = format!("{name} lane set {}\n", traffic.set);
+/// A traffic value, then its placement with a line for each loaded lane. 01
+/// gives no lane a factor of its own, so each shows 0.
+fn placement_lines(name: &str, lanes: usize, traffic: &Traffic) -> String {
+    let mut lines = format!("{name} {} N.U\n", traffic.value);
+    lines += &format!("  lanes {lanes}, set {}\n", traffic.set);
     for (number, lane) in (1..).zip(&traffic.lanes) {
         let entry = [
             "unloaded",
@@ -84,22 +65,29 @@ fn placement_lines(name: &str, traffic: &Traffic) -> String {
             "HO raising",
             "HO lowering",
         ];
-        if lane.entry != 0 {
-            let entry = entry[lane.entry as usize];
-            lines += &format!("  lane {number} {entry} centre {}\n", lane.centre);
+        if lane.entry != UNLOADED {
+            let (entry, centre) = (entry[lane.entry as usize], lane.centre);
+            lines += &format!("  lane {number}: {entry}, centre {centre}/{lanes} cm, factor 0\n");
         }
     }
     lines
 }
 
-fn omission_line(name: &str, governing: &Governing) -> String {
-    let effects = (1..=16).filter(|effect| governing.omitted & (1 << (effect - 1)) != 0);
-    let mut left_out: Vec<String> = effects.map(|effect| format!("effect {effect}")).collect();
-    if governing.traffic_left_out != 0 {
-        left_out.push("the traffic".into());
+fn pair_line(name: &str, stand: &Stand) -> String {
+    let side = ["left", "right"][stand.side as usize];
+    format!("{name} pair at station {}, side {side}\n", stand.station)
+}
+
+fn governing_lines(name: &str, state: &State) -> String {
+    if state.present == 0 {
+        return format!("{name} none\n");
     }
-    if left_out.is_empty() {
-        left_out.push("nothing".into());
-    }
-    format!("{name} leaves out {}\n", left_out.join(", "))
+    let line = |question: &str, governing: &Governing| {
+        let traffic = ["counts", "left out"][governing.traffic_left_out as usize];
+        format!(
+            "{name} {question} {} row {}, left out {}, traffic {traffic}\n",
+            governing.value, governing.row, governing.omitted
+        )
+    };
+    line("greatest", &state.greatest) + &line("least", &state.least)
 }

@@ -50,7 +50,8 @@ impl LongitudinalEffects {
     }
 }
 
-/// The furthest that an element in a lane goes.
+/// The furthest that an element in a lane goes; where it goes as far in several
+/// ways, at the lowest centre, raising before lowering.
 pub fn furthest_in_lane(
     job: &Job,
     longitudinal: &LongitudinalEffects,
@@ -126,7 +127,8 @@ pub fn traffic_value(
     traffic
 }
 
-/// Normal: any set of lanes carries HN, the sum at the r of their number.
+/// Normal: any set of lanes carries HN, the sum at the r of their number. Of
+/// equally good sets the lowest is taken.
 fn best_normal(hn: &[LaneElement], question: Question) -> Loading {
     let all_sets = 0..1_u32 << hn.len();
     let loadings = all_sets.map(|set| Loading {
@@ -138,7 +140,8 @@ fn best_normal(hn: &[LaneElement], question: Question) -> Loading {
 }
 
 /// Overload: one lane carries HO at 20; the other loaded lanes are HN, all at
-/// the r of their own number.
+/// the r of their own number. Of equally good loadings the lowest HO lane's are
+/// taken, and of those the lowest set's.
 fn best_overload(hn: &[LaneElement], ho: &[LaneElement], question: Question) -> Loading {
     let twentieths = i128::from(OVERLOAD_ELEMENT_TWENTIETHS);
     let loadings = (0..hn.len()).flat_map(|lane| {

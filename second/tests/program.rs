@@ -124,27 +124,10 @@ ultimate greatest 0 row 1 least 0 row 1
 }
 
 #[test]
-fn account_adds_placements_and_omissions() {
-    let expected = format!(
-        "{JOB_A_LINES}\
-raising station 5 left
-lowering station -5 left
-normal greatest lane set 3
-  lane 1 HN raising centre 300
-  lane 2 HN raising centre 1020
-normal least lane set 0
-overload greatest lane set 3
-  lane 1 HO raising centre 300
-  lane 2 HN raising centre 1020
-overload least lane set 1
-  lane 1 HO lowering centre 300
-service greatest leaves out nothing
-service least leaves out nothing
-ultimate greatest leaves out nothing
-ultimate least leaves out nothing
-"
-    );
-    prints(&command_on(&["account"], "account", &job_a()), &expected);
+fn account_prints_the_page_of_the_account() {
+    let account = second::solve(&job_a(), &mut [0; 20]).account;
+    let page = second::report::page(2, &account);
+    prints(&command_on(&["account"], "account", &job_a()), &page);
     prints(&second(&["account"], Stdio::null()), "refused 1 at 0\n");
 }
 

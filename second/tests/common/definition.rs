@@ -98,7 +98,7 @@ fn section_lengths(header: &[i64]) -> [usize; 5] {
 
 /// The lowest refusal with its lowest place.
 fn refusal(bytes: usize, words: &[i64], patch_bytes: usize) -> Option<(u64, usize)> {
-    if words.len() < 10 || bytes % 4 != 0 || words[0] != 1 {
+    if words.len() < 10 || !bytes.is_multiple_of(4) || words[0] != 1 {
         return Some((1, 0));
     }
     let header_place = (1..10).find(|&place| !header_word_is_lawful(words, place));
@@ -114,22 +114,27 @@ fn refusal(bytes: usize, words: &[i64], patch_bytes: usize) -> Option<(u64, usiz
     let mut faults = vec![];
     let mut start = 10;
     let sections = [
-        (job.line, 2),
-        (job.transverse, 1),
-        (job.effects, 2),
-        (job.rows, 4),
-        (job.records, 3),
+        ("line", job.line, 2),
+        ("transverse", job.transverse, 1),
+        ("effects", job.effects, 2),
+        ("rows", job.rows, 4),
+        ("records", job.records, 3),
     ];
-    for (number, (section, each)) in sections.into_iter().enumerate() {
+    for (name, section, each) in sections {
+        let number = if ["line", "transverse"].contains(&name) {
+            4
+        } else {
+            6
+        };
         for (at, group) in section.chunks(each).enumerate() {
             let place = start + at * each;
             for (within, &word) in group.iter().enumerate() {
-                let (from, to) = limits(words, number, within, group);
+                let (from, to) = limits(words, name, within, group);
                 if word < from || word > to {
-                    faults.push((if number < 2 { 4 } else { 6 }, place + within));
+                    faults.push((number, place + within));
                 }
             }
-            if number == 0 && group[0] * group[1] < 0 {
+            if name == "line" && group[0] * group[1] < 0 {
                 faults.push((5, place));
             }
         }
@@ -172,17 +177,18 @@ fn header_word_is_lawful(words: &[i64], place: usize) -> bool {
 }
 
 /// The limits of a word within a piece, an effect, a row or a record.
-fn limits(header: &[i64], section: usize, within: usize, group: &[i64]) -> (i64, i64) {
+fn limits(header: &[i64], section: &str, within: usize, group: &[i64]) -> (i64, i64) {
     let (effects, records) = (header[7], header[9]);
     match (section, within) {
-        (0, _) => (-5000, 5000),
-        (1, _) => (-1000, 1000),
-        (2, 0) => (-1_000_000_000, 1_000_000_000),
-        (2, _) | (3, 0) => (1, 2),
-        (3, 1) => (0, 2),
-        (3, 2) if group[1] == 0 => (0, 0),
-        (3, 3) | (4, 2) => (0, records),
-        (4, 0) => (1, effects),
+        ("line", _) => (-5000, 5000),
+        ("transverse", _) => (-1000, 1000),
+        ("effects", 0) => (-1_000_000_000, 1_000_000_000),
+        ("effects", _) | ("rows", 0) => (1, 2),
+        ("rows", 1) => (0, 2),
+        ("rows", 2) if group[1] == 0 => (0, 0),
+        ("rows", 3) | ("records", 2) => (0, records),
+        ("records", 0) => (1, effects),
+        // A factor of a row or of a record.
         _ => (0, 3000),
     }
 }

@@ -1,10 +1,10 @@
 //! The kernel agrees with the second implementation on generated jobs, and no drawn arrangement beats a report.
 
 use random::{call, solve, ACCOUNT_BYTES};
-use second::generator::{case, Edition};
+use second::generator::{case, Case, Edition};
 use second::job::Job;
 use second::words::words_of;
-use second::{checker, sampler};
+use second::{checker, chosen, sampler};
 
 /// Checks COUNT cases of each edition from SEED on (environment, with these defaults).
 fn asked(name: &str, default: u64) -> u64 {
@@ -16,6 +16,23 @@ fn asked(name: &str, default: u64) -> u64 {
     }
 }
 
+/// The refusal of a case, 0 for an accepted one, where the kernel's answer is right.
+fn agreed_refusal(case: &Case) -> Result<u64, String> {
+    let mut patch = case.patch.clone();
+    let answer = solve(&case.job, &mut patch);
+    checker::check(&case.job, &case.patch, &patch, &answer)?;
+    Ok(answer.refusal)
+}
+
+#[test]
+fn kernel_and_second_implementation_agree_on_chosen_cases() {
+    for (number, case) in chosen::cases().enumerate() {
+        if let Err(fault) = agreed_refusal(&case) {
+            panic!("chosen case {number}: {fault}");
+        }
+    }
+}
+
 #[test]
 fn kernel_and_second_implementation_agree() {
     let first = asked("SEED", 0);
@@ -24,13 +41,9 @@ fn kernel_and_second_implementation_agree() {
         let number = edition.number();
         let mut refused = [0u64; 10];
         for seed in first..first + count {
-            let case = case(edition, seed);
-            let mut patch = case.patch.clone();
-            let answer = solve(&case.job, &mut patch);
-            if let Err(fault) = checker::check(&case.job, &case.patch, &patch, &answer) {
-                panic!("edition {number}, seed {seed}: {fault}");
-            }
-            refused[answer.refusal as usize] += 1;
+            let refusal = agreed_refusal(&case(edition, seed))
+                .unwrap_or_else(|fault| panic!("edition {number}, seed {seed}: {fault}"));
+            refused[refusal as usize] += 1;
         }
         println!("edition {number}, {count} cases from seed {first}, by refusal {refused:?}");
         if count >= 10_000 {

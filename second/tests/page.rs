@@ -1,0 +1,117 @@
+//! The page of an account, and which of equally good choices it shows.
+
+mod common;
+
+use common::{level_job, pieces};
+use second::account::{Account, Governing, Lane, Stand, State, Traffic};
+use second::report::page;
+use second::solve::account_of;
+
+#[test]
+fn every_part_of_an_account_is_told() {
+    let traffic = |value, set, lanes: [(u32, i64); 5]| Traffic {
+        value,
+        set,
+        lanes: lanes.map(|(entry, centre)| Lane { entry, centre }),
+    };
+    let unloaded = (0, 0);
+    let account = Account {
+        normal_greatest: traffic(
+            31,
+            0b10010,
+            [unloaded, (1, 2001), unloaded, unloaded, (2, 9000)],
+        ),
+        normal_least: traffic(-32, 0, [unloaded; 5]),
+        overload_greatest: traffic(
+            33,
+            0b01001,
+            [(3, 750), unloaded, unloaded, (1, 7000), unloaded],
+        ),
+        overload_least: traffic(
+            -34,
+            0b00100,
+            [unloaded, unloaded, (4, 5005), unloaded, unloaded],
+        ),
+        raising: Stand {
+            station: 17,
+            side: 1,
+        },
+        lowering: Stand {
+            station: -3,
+            side: 0,
+        },
+        service: State::default(),
+        ultimate: State {
+            present: 1,
+            greatest: Governing {
+                value: 41,
+                row: 32,
+                omitted: 0b1010,
+                traffic_left_out: 0,
+            },
+            least: Governing {
+                value: -42,
+                row: 1,
+                omitted: 0,
+                traffic_left_out: 1,
+            },
+        },
+    };
+    let expected = "\
+normal greatest 31 N.U
+  lanes 5, set 18
+  lane 2: HN raising, centre 2001/5 cm, factor 0
+  lane 5: HN lowering, centre 9000/5 cm, factor 0
+normal least -32 N.U
+  lanes 5, set 0
+overload greatest 33 N.U
+  lanes 5, set 9
+  lane 1: HO raising, centre 750/5 cm, factor 0
+  lane 4: HN raising, centre 7000/5 cm, factor 0
+overload least -34 N.U
+  lanes 5, set 4
+  lane 3: HO lowering, centre 5005/5 cm, factor 0
+raising pair at station 17, side right
+lowering pair at station -3, side left
+service none
+ultimate greatest 41 row 32, left out 10, traffic counts
+ultimate least -42 row 1, left out 0, traffic left out
+";
+    assert_eq!(page(5, &account), expected);
+}
+
+/// The pair is as good at station 1, from either side, as at 2. Lane 1 is as
+/// high at 200 cm as at 250, where its centres end. Lane 2 or lane 4 beside it
+/// gives the same, 0.9 of 1120, which is more than lane 1 alone or 0.8 of all
+/// three. For least every lane, centre and direction gives 0.
+#[test]
+fn of_equally_good_choices_the_lowest_is_shown() {
+    let mut transverse = vec![0; 41];
+    transverse[4..=5].fill(1000);
+    transverse[11..=13].fill(120);
+    transverse[27..=29].fill(120);
+    let mut job = level_job(2000, 50, transverse);
+    job.pieces = pieces(&[(0, 8), (8, 8), (8, 8)]);
+    let expected = "\
+normal greatest 2993760 N.U
+  lanes 5, set 3
+  lane 1: HN raising, centre 1000/5 cm, factor 0
+  lane 2: HN raising, centre 2750/5 cm, factor 0
+normal least 0 N.U
+  lanes 5, set 0
+overload greatest 5531520 N.U
+  lanes 5, set 11
+  lane 1: HO raising, centre 1000/5 cm, factor 0
+  lane 2: HN raising, centre 2750/5 cm, factor 0
+  lane 4: HN raising, centre 6750/5 cm, factor 0
+overload least 0 N.U
+  lanes 5, set 1
+  lane 1: HO raising, centre 750/5 cm, factor 0
+raising pair at station 1, side left
+lowering pair at station -1, side left
+service greatest 0 row 1, left out 0, traffic counts
+service least 0 row 1, left out 0, traffic counts
+ultimate none
+";
+    assert_eq!(page(5, &account_of(&job)), expected);
+}
