@@ -1,7 +1,6 @@
 //! Cases chosen by hand for what the generated ones do not reach. To add one,
 //! write its builder, with the reason above it, and put it at the end of
-//! BUILDERS, so that the cases stored before it stay where they are; or put
-//! words of Job A and its reason at the end of PAST_LIMITS.
+//! BUILDERS; or, where words of Job A changed will do, put them into PAST_LIMITS.
 
 use crate::generator::Case;
 use crate::job::{Effect, Job, Piece, Record, Row, MAY_BE_LEFT_OUT};
@@ -11,11 +10,15 @@ use crate::sections::{
 };
 use crate::words::{bytes_of, words_of};
 
-const BUILDERS: [fn() -> Case; 4] = [
+const BUILDERS: [fn() -> Case; 8] = [
     most_words,
     one_word_past_the_most,
     longest_return,
     longest_chain,
+    normal_under_32_bits,
+    normal_past_32_bits,
+    overload_under_32_bits,
+    overload_past_32_bits,
 ];
 
 /// Places of Job A's first effect, its two rows and its two records.
@@ -143,6 +146,38 @@ fn longest_chain() -> Case {
     job_a_with(|job| {
         job.effects = sixteen_effects();
         job.records = chains_of(512);
+    })
+}
+
+/// A traffic value is the quotient of two whole numbers: three times the dynamic
+/// factor times the lanes' sum in n g-ths, by 800000 n g. The dividend of normal
+/// greatest is just within 32 bits.
+fn normal_under_32_bits() -> Case {
+    small_traffic(40, vec![1; 9], 1113)
+}
+
+/// It is just past 32 bits.
+fn normal_past_32_bits() -> Case {
+    small_traffic(40, vec![1; 9], 1114)
+}
+
+/// The dividend of overload greatest is just within 32 bits.
+fn overload_under_32_bits() -> Case {
+    small_traffic(37, vec![0, 0, 0, 0, 0, 10, 0, 0, 0, 0], 1116)
+}
+
+/// It is just past 32 bits.
+fn overload_past_32_bits() -> Case {
+    small_traffic(37, vec![0, 0, 0, 0, 0, 10, 0, 0, 0, 0], 1117)
+}
+
+/// A line of 1 dm with one ordinate, under one lane of 300 cm.
+fn small_traffic(spacing: i64, transverse: Vec<i64>, dynamic_value: i64) -> Case {
+    job_a_with(|job| {
+        (job.piece_length, job.spacing, job.width) = (1, spacing, 300);
+        job.pieces = vec![Piece { left: 0, right: 1 }];
+        job.transverse = transverse;
+        job.dynamic_value = dynamic_value;
     })
 }
 

@@ -21,6 +21,26 @@ fn their_lengths_and_answers() {
     assert_eq!(reached.take(due.len()).collect::<Vec<_>>(), due);
 }
 
+/// Twenty twentieths, the ordinate at 150 cm times n g, and the line effect of
+/// 7 and an axle give the sum: the dividends are next to 2^32 on both sides.
+#[test]
+fn dividends_next_to_32_bits() {
+    let (normal, overload) = (20 * 40 * (7 + 1600), 20 * 20 * (7 + 3200));
+    let due = [
+        (40, 3 * 1113 * normal),
+        (40, 3 * 1114 * normal),
+        (37, 3 * 1116 * overload),
+        (37, 3 * 1117 * overload),
+    ];
+    for (number, (mut case, (g, dividend))) in (0..).zip(chosen::cases().skip(4).zip(due)) {
+        let account = solve(&case.job, &mut case.patch).account;
+        let value = [&account.normal_greatest, &account.overload_greatest][number / 2].value;
+        assert_eq!(value, (dividend + 800_000 * g - 1) / (800_000 * g));
+        assert_eq!(dividend < 1 << 32, number % 2 == 0);
+        assert!((dividend - (1 << 32)).abs() < 5_000_000);
+    }
+}
+
 /// A word past its limit is refused at its place.
 #[test]
 fn past_a_limit_the_word_is_refused() {
