@@ -9,7 +9,7 @@ use second::checker::check;
 use second::generator::{case, Edition};
 use second::job::Job;
 use second::job_a::job_a;
-use second::{chosen, solve, Answer};
+use second::{solve, store, Answer};
 
 /// What a kernel gave for a job, with the patch buffer before and after.
 #[derive(Clone)]
@@ -70,11 +70,11 @@ fn refuses(call: &Call, changes: &[(&str, Change)]) {
 }
 
 /// What is due by the definitions alone passes, with the solver's placements
-/// and omissions: for generated cases by seed, then for the chosen ones.
+/// and omissions: for generated cases by seed, then for the stored ones.
 #[test]
-fn right_answers_to_generated_and_chosen_cases_pass() {
+fn right_answers_to_generated_and_stored_cases_pass() {
     let generated = (0..2000).map(|seed| case(Edition::One, seed));
-    for (number, case) in generated.chain(chosen::cases()).enumerate() {
+    for (number, case) in generated.chain(store::cases()).enumerate() {
         let mut call = Call::new(&case.job, &case.patch);
         (call.answer, call.after) = definition::due(&case.job, &case.patch, &call.answer);
         assert_eq!(call.check(), Ok(()), "case {number}");
