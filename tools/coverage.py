@@ -31,18 +31,17 @@ def disassembled(archive):
 
 
 class Counts:
-    """By place: executions, and of jumps the places they went to."""
+    """By place: executions, and of jumps how often they went where."""
 
     def __init__(self):
         self.executed = Counter()
         self.followed = defaultdict(Counter)
 
     def add(self, program, functions):
-        symbols = [line.split(maxsplit=2) for line in output("nm", "--defined-only", program).splitlines()]
-        starts = sorted((int(address, 16), name) for address, kind, name in symbols if kind in "tT")
         at = {}
-        for start, name in starts:
-            at.update({start + offset: (name, offset) for offset in functions.get(name, ())})
+        for line in output("nm", "--defined-only", program).splitlines():
+            address, _, name = line.split(maxsplit=2)
+            at.update({int(address, 16) + offset: (name, offset) for offset in functions.get(name, ())})
         if len(at) != sum(map(len, functions.values())):
             sys.exit(f"coverage: {program} does not have each function of the archive once")
         inside, jump = False, None

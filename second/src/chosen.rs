@@ -32,7 +32,7 @@ type Change = (usize, i32);
 /// Changes of Job A, the last of each to a word outside its limits: next to a
 /// limit, or as far from it as a word can be, where no generated case is refused
 /// for it.
-pub const PAST_LIMITS: [&[Change]; 49] = [
+pub const PAST_LIMITS: [&[Change]; 51] = [
     // h next to a piece length, of a piece length in its low six bits, and far.
     &[(PIECE_LENGTH, 6)],
     &[(PIECE_LENGTH, 9)],
@@ -84,6 +84,7 @@ pub const PAST_LIMITS: [&[Change]; 49] = [
     &[(RECORD, -1)],
     &[(RECORD, 2)],
     &[(RECORD, i32::MIN)],
+    &[(RECORD, i32::MAX)],
     &[(RECORD + 1, -1)],
     &[(RECORD + 1, 3001)],
     &[(RECORD + 1, i32::MIN)],
@@ -91,6 +92,7 @@ pub const PAST_LIMITS: [&[Change]; 49] = [
     &[(RECORD + 2, -1)],
     &[(RECORD + 2, 3)],
     &[(RECORD + 2, i32::MIN)],
+    &[(RECORD + 2, i32::MAX)],
 ];
 
 /// The chosen cases, in the order in which they are stored.
