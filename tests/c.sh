@@ -1,7 +1,7 @@
 #!/usr/bin/env bash
 # The C side: installs the kernel, compiles the header and the C files with warnings as errors, runs them under the address and
-# undefined-behaviour sanitizers and holds the example's output to examples/host.expected. The same example is built by pkg-config
-# from a moved installation, outside the repository, as C and as C++. Its products are in target/c.
+# undefined-behaviour sanitizers and holds the example's output to examples/host.expected and the stored cases' to crates/replay/stdout.
+# The same example is built by pkg-config from a moved installation, outside the repository, as C and as C++. Its products are in target/c.
 set -u
 cd "$(dirname "$0")/.." || exit 2
 
@@ -51,6 +51,11 @@ another_layout() {
     gcc -std=c99 $warnings -Itarget/c/other examples/host.c target/dist/lib/libhnho.a -o target/c/other/host
 }
 
+# the archive answers the stored cases as is due for them
+stored() {
+  target/c/stored_calls crates/replay/data/jobs >target/c/stored_calls.out && cmp target/c/stored_calls.out crates/replay/stdout
+}
+
 # install_in FOLDER PREFIX: an installation, PREFIX being a path from FOLDER
 install_in() {
   local top=$PWD
@@ -84,6 +89,8 @@ step 'the message about another layout' fails target/c/other/host examples/job-a
 
 step 'compiling tests/host_edges.c' compile tests/host_edges.c target/c/host_edges
 step 'tests/host_edges.c' target/c/host_edges examples/job-a.bin
+step 'compiling tests/stored_calls.c' compile tests/stored_calls.c target/c/stored_calls
+step 'the stored cases' stored
 
 away=$(mktemp -d) || exit 2
 trap 'rm -rf "$away"' EXIT
@@ -94,4 +101,4 @@ for compiler in 'gcc -std=c99' 'g++ -x c++ -std=c++98' 'g++ -x c++ -std=c++20'; 
   step "the example by $compiler and pkg-config" outside "$away" $compiler
   step "the page by $compiler and pkg-config" page "$away/host"
 done
-printf 'c.sh: the header, the example host, the edges and the installation are as due\n'
+printf 'c.sh: the header, the example host, the edges, the stored cases and the installation are as due\n'

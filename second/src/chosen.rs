@@ -1,22 +1,113 @@
 //! Cases chosen by hand for what the generated ones do not reach. To add one,
 //! write its builder, with the reason above it, and put it at the end of
-//! BUILDERS, so that the cases stored before it stay where they are.
+//! BUILDERS; or, where words of Job A changed will do, put them into PAST_LIMITS.
 
 use crate::generator::Case;
 use crate::job::{Effect, Job, Piece, Record, Row, MAY_BE_LEFT_OUT};
 use crate::job_a::job_a;
+use crate::sections::{
+    DYNAMIC_KIND, DYNAMIC_VALUE, EFFECTS, PIECES, PIECE_LENGTH, RECORDS, ROWS, WIDTH,
+};
 use crate::words::{bytes_of, words_of};
 
-const BUILDERS: [fn() -> Case; 4] = [
+const BUILDERS: [fn() -> Case; 8] = [
     most_words,
     one_word_past_the_most,
     longest_return,
     longest_chain,
+    normal_under_32_bits,
+    normal_past_32_bits,
+    overload_under_32_bits,
+    overload_past_32_bits,
+];
+
+/// Places of Job A's first effect, its two rows and its two records.
+const EFFECT: usize = 69;
+const ROW: usize = 71;
+const RECORD: usize = 79;
+
+/// A place and the word to put there.
+type Change = (usize, i32);
+
+/// Changes of Job A, the last of each to a word outside its limits: next to a
+/// limit, or as far from it as a word can be, where no generated case is refused
+/// for it.
+pub const PAST_LIMITS: [&[Change]; 51] = [
+    // h next to a piece length, of a piece length in its low six bits, and far.
+    &[(PIECE_LENGTH, 6)],
+    &[(PIECE_LENGTH, 9)],
+    &[(PIECE_LENGTH, 11)],
+    &[(PIECE_LENGTH, 24)],
+    &[(PIECE_LENGTH, 26)],
+    &[(PIECE_LENGTH, 65)],
+    &[(PIECE_LENGTH, i32::MIN)],
+    &[(PIECE_LENGTH, i32::MAX)],
+    // No pieces, fewer than none, one too many for h 10, and the most.
+    &[(PIECES, 0)],
+    &[(PIECES, -1)],
+    &[(PIECES, 101)],
+    &[(PIECES, i32::MAX)],
+    // W far below.
+    &[(WIDTH, i32::MIN)],
+    // The dynamic value of each kind.
+    &[(DYNAMIC_VALUE, i32::MIN)],
+    &[(DYNAMIC_KIND, 2), (DYNAMIC_VALUE, -1)],
+    &[(DYNAMIC_KIND, 2), (DYNAMIC_VALUE, 1)],
+    &[(DYNAMIC_KIND, 2), (DYNAMIC_VALUE, i32::MAX)],
+    &[(DYNAMIC_KIND, 3), (DYNAMIC_VALUE, 5001)],
+    // An effect, a row and records too many; no rows; far.
+    &[(EFFECTS, 17)],
+    &[(ROWS, 0)],
+    &[(ROWS, 33)],
+    &[(ROWS, i32::MIN)],
+    &[(RECORDS, i32::MAX)],
+    // An effect's value and its mark.
+    &[(EFFECT, i32::MIN)],
+    &[(EFFECT, i32::MAX)],
+    &[(EFFECT + 1, 3)],
+    &[(EFFECT + 1, i32::MIN)],
+    &[(EFFECT + 1, i32::MAX)],
+    // A row's state and its live kind.
+    &[(ROW, i32::MIN)],
+    &[(ROW + 1, 3)],
+    &[(ROW + 1, i32::MIN)],
+    &[(ROW + 1, i32::MAX)],
+    // Its live factor, of kind 0 and of another.
+    &[(ROW + 1, 0), (ROW + 2, -1)],
+    &[(ROW + 1, 0), (ROW + 2, i32::MIN)],
+    &[(ROW + 1, 0), (ROW + 2, i32::MAX)],
+    &[(ROW + 2, -1)],
+    &[(ROW + 2, 3001)],
+    &[(ROW + 2, i32::MIN)],
+    &[(ROW + 2, i32::MAX)],
+    // A record's effect, of one; its factor; its next, of two.
+    &[(RECORD, -1)],
+    &[(RECORD, 2)],
+    &[(RECORD, i32::MIN)],
+    &[(RECORD, i32::MAX)],
+    &[(RECORD + 1, -1)],
+    &[(RECORD + 1, 3001)],
+    &[(RECORD + 1, i32::MIN)],
+    &[(RECORD + 1, i32::MAX)],
+    &[(RECORD + 2, -1)],
+    &[(RECORD + 2, 3)],
+    &[(RECORD + 2, i32::MIN)],
+    &[(RECORD + 2, i32::MAX)],
 ];
 
 /// The chosen cases, in the order in which they are stored.
 pub fn cases() -> impl Iterator<Item = Case> {
-    BUILDERS.into_iter().map(|build| build())
+    let built = BUILDERS.into_iter().map(|build| build());
+    built.chain(PAST_LIMITS.into_iter().map(changed_job_a))
+}
+
+/// Job A with words changed.
+fn changed_job_a(changes: &[Change]) -> Case {
+    with_words(job_a_with(|_| ()), |words| {
+        for &(place, word) in changes {
+            words[place] = word;
+        }
+    })
 }
 
 /// Every section as long as it may be: 3915 words.
@@ -57,6 +148,38 @@ fn longest_chain() -> Case {
     job_a_with(|job| {
         job.effects = sixteen_effects();
         job.records = chains_of(512);
+    })
+}
+
+/// A traffic value is the quotient of two whole numbers: three times the dynamic
+/// factor times the lanes' sum in n g-ths, by 800000 n g. The dividend of normal
+/// greatest is just within 32 bits.
+fn normal_under_32_bits() -> Case {
+    small_traffic(40, vec![1; 9], 1113)
+}
+
+/// It is just past 32 bits.
+fn normal_past_32_bits() -> Case {
+    small_traffic(40, vec![1; 9], 1114)
+}
+
+/// The dividend of overload greatest is just within 32 bits.
+fn overload_under_32_bits() -> Case {
+    small_traffic(37, vec![0, 0, 0, 0, 0, 10, 0, 0, 0, 0], 1116)
+}
+
+/// It is just past 32 bits.
+fn overload_past_32_bits() -> Case {
+    small_traffic(37, vec![0, 0, 0, 0, 0, 10, 0, 0, 0, 0], 1117)
+}
+
+/// A line of 1 dm with one ordinate, under one lane of 300 cm.
+fn small_traffic(spacing: i64, transverse: Vec<i64>, dynamic_value: i64) -> Case {
+    job_a_with(|job| {
+        (job.piece_length, job.spacing, job.width) = (1, spacing, 300);
+        job.pieces = vec![Piece { left: 0, right: 1 }];
+        job.transverse = transverse;
+        job.dynamic_value = dynamic_value;
     })
 }
 

@@ -1,6 +1,8 @@
 //! The chosen cases reach what they are chosen for.
 
-use second::{chosen, solve};
+use second::chosen::{self, PAST_LIMITS};
+use second::sections::HEADER_WORDS;
+use second::solve;
 
 /// Job A's rows follow 10 words, 40 ordinates, 19 transverse ones and, here,
 /// sixteen effects: they start at word 101.
@@ -17,6 +19,42 @@ fn their_lengths_and_answers() {
         (4 * 1645, 8, 101),
     ];
     assert_eq!(reached.take(due.len()).collect::<Vec<_>>(), due);
+}
+
+/// Twenty twentieths, the ordinate at 150 cm times n g, and the line effect of
+/// 7 and an axle give the sum: the dividends are next to 2^32 on both sides.
+#[test]
+fn dividends_next_to_32_bits() {
+    let (normal, overload) = (20 * 40 * (7 + 1600), 20 * 20 * (7 + 3200));
+    let due = [
+        (40, 3 * 1113 * normal),
+        (40, 3 * 1114 * normal),
+        (37, 3 * 1116 * overload),
+        (37, 3 * 1117 * overload),
+    ];
+    for (number, (mut case, (g, dividend))) in (0..).zip(chosen::cases().skip(4).zip(due)) {
+        let account = solve(&case.job, &mut case.patch).account;
+        let value = [&account.normal_greatest, &account.overload_greatest][number / 2].value;
+        assert_eq!(value, (dividend + 800_000 * g - 1) / (800_000 * g));
+        assert_eq!(dividend < 1 << 32, number % 2 == 0);
+        assert!((dividend - (1 << 32)).abs() < 5_000_000);
+    }
+}
+
+/// A word past its limit is refused at its place.
+#[test]
+fn past_a_limit_the_word_is_refused() {
+    let before = chosen::cases().count() - PAST_LIMITS.len();
+    for (changes, mut case) in PAST_LIMITS.iter().zip(chosen::cases().skip(before)) {
+        let (place, word) = changes[changes.len() - 1];
+        let answer = solve(&case.job, &mut case.patch);
+        let due = if place < HEADER_WORDS { 2 } else { 6 };
+        assert_eq!(
+            (answer.refusal, answer.place),
+            (due, place as u64),
+            "word {word}"
+        );
+    }
 }
 
 /// A case stored twice tells nothing new.
