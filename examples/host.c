@@ -175,7 +175,7 @@ int main(int argc, char **argv) {
 
   result = hnho_solve(job, job_bytes, patch, sizeof patch, bytes, sizeof bytes);
   if (result != 0) {
-    fprintf(stderr, "refused %d at %" PRIu64 ": %s\n", hnho_refusal(result), hnho_place(result), hnho_refusal_text(result));
+    fprintf(stderr, "refused %d at %" PRIu64 ": %s\n", hnho_refusal(result), hnho_place(result), hnho_refusal_text(hnho_refusal(result)));
     return 1;
   }
   hnho_read_account(bytes, &account);

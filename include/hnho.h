@@ -235,19 +235,15 @@ static inline uint64_t hnho_place(uint64_t result) {
   return result >> 8;
 }
 
-/* What is wrong with a job or its buffers and who mends it, without a newline. It takes the call's whole result: 2 at place 0 is
- * another fault than 2 at a word.
- */
-static inline const char *hnho_refusal_text(uint64_t result) {
-  switch (hnho_refusal(result)) {
+/* What is wrong with a job or its buffers and who mends it, by the refusal's number; a line without its newline. */
+static inline const char *hnho_refusal_text(int number) {
+  switch (number) {
   case HNHO_ACCEPTED:
     return "accepted";
   case HNHO_NOT_A_JOB:
     return "under 10 words, a byte count that 4 does not divide, or word 0 is not 1; mended by whoever packs the job";
   case HNHO_HEADER_LIMIT:
-    if (hnho_place(result) == 0)
-      return "the account buffer is shorter than an account; mended by the host";
-    return "a header word outside its limits; mended by whoever packs the job";
+    return "a header word outside its limits; mended by whoever packs the job (at place 0 the account buffer is short; mended by the host)";
   case HNHO_WORD_COUNT:
     return "not the number of words that the header calls for; mended by whoever packs the job";
   case HNHO_ORDINATE_LIMIT:

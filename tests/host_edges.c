@@ -352,40 +352,22 @@ static void layout(void) {
   expect(hnho_layout() == 1, "the archive's layout");
 }
 
-/* Every result's text: there is one, it is a line, no other result's, names who mends it as document 01 does, and is the same at every
- * place but that of the account buffer. */
+/* Every number's text: there is one, it is a line, no other number's, and names who mends it as document 01 does. */
 static void refusal_texts(void) {
   static const char packs[] = "whoever packs the job", lines[] = "whoever works out the lines", factors[] = "whoever keeps the factors";
-  static const struct {
-    uint64_t result;
-    const char *mended_by;
-  } due[] = {
-    {0, ""},
-    {7 << 8 | 1, packs},
-    {7 << 8 | 2, packs},
-    {7 << 8 | 3, packs},
-    {7 << 8 | 4, lines},
-    {7 << 8 | 5, lines},
-    {7 << 8 | 6, factors},
-    {7 << 8 | 7, factors},
-    {7 << 8 | 8, factors},
-    {7 << 8 | 9, "the host"},
-    {2, "the host"},
-    {10, ""}
-  };
-  size_t texts = sizeof due / sizeof *due, i, j;
+  static const char host[] = "the host";
+  static const char *const mended_by[] = {"", packs, packs, packs, lines, lines, factors, factors, factors, host, ""};
+  int texts = (int)(sizeof mended_by / sizeof *mended_by), i, j;
   step = "hnho_refusal_text";
   for (i = 0; i < texts; i++) {
-    const char *text = hnho_refusal_text(due[i].result);
+    const char *text = hnho_refusal_text(i);
     expect(text != NULL && text[0] != 0 && strchr(text, '\n') == NULL, "is no line");
-    expect(strstr(text, due[i].mended_by) != NULL, "does not name who mends it");
+    expect(strstr(text, mended_by[i]) != NULL, "does not name who mends it");
     for (j = 0; j < i; j++)
-      expect(strcmp(text, hnho_refusal_text(due[j].result)) != 0, "is another result's");
+      expect(strcmp(text, hnho_refusal_text(j)) != 0, "is another number's");
   }
-  for (i = 0; i < 10; i++)
-    if (i != HNHO_HEADER_LIMIT)
-      expect(strcmp(hnho_refusal_text(i), hnho_refusal_text(due[i].result)) == 0, "changes with the place");
-  for (; i < 256; i++)
+  expect(strstr(hnho_refusal_text(HNHO_HEADER_LIMIT), host) != NULL, "does not tell of a short account buffer");
+  for (i = -1; i < 256; i += i < 0 ? texts + 1 : 1)
     expect(strcmp(hnho_refusal_text(i), hnho_refusal_text(10)) == 0, "is of no refusal");
 }
 
