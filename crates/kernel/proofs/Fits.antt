@@ -1,15 +1,17 @@
 -- What an accepted job gives each part of its account: its section has its words, within their limits.
-use mathlib.Core.Path.{_≡_, sym, subst}
+use mathlib.Core.Path.{_≡_, sym, _∙_, ap₂, subst}
+use mathlib.Core.Bool.{true}
 use mathlib.Core.Logic.{inl, inr}
 use mathlib.Core.List.{List, [], _∷_}
 use Prim.Native.Nat.{ℕ, _*_, _≤_, _<_}
 use native.Mathlib.Omega.{arith}
 use Rattle.model.specs.Sections.{lineSection, transverseSection, effectSection, rowSection, recordSection}
-use lib.IntN.{ℤ}
+use lib.IntN.{ℤ, pos}
 use Rattle.model.specs.Job.{Live, Limit}
 use Rattle.model.specs.Decode.{decode, effectAt, rowAt}
 use Rattle.model.specs.declared.State.{State}
 use Rattle.model.specs.Dynamic.{dynamicFactor}
+use Rattle.model.specs.Refusals.{dynamicFits}
 use Rattle.model.proofs.Accepted.{OneOf, Clear, clear, HeaderFits, header-fits, line-within, transverse-within, dynamic-range, OneSigned, accepted-signed, accepted-spaced}
 use Rattle.job.specs.Header.{headerOf, Sized}
 use Rattle.job.specs.declared.header.Header.{Header}
@@ -70,6 +72,14 @@ module _ {b : List ℕ} {head : Header} (ready : Ready b head) where
 
   pub tables : TablesFit (effectSection b) (rowSection b) (recordSection b) (head .rows) (head .records)
   tables = own (λ h. TablesFit (effectSection b) (rowSection b) (recordSection b) (h .rows) (h .records)) (tables-fit b (ready .patch) (ready .accepted))
+
+  pub width-limits : (300 ≤ head .width) × (head .width ≤ 2079)
+  width-limits = (across-fits .wide, across-fits .narrow)
+
+  pub dynamic-limits : (1 ≤ head .kind) × ((head .kind ≤ 3) × (dynamicFits (pos (head .kind)) (pos (head .value)) ≡ true))
+  dynamic-limits =
+      own (λ h. (1 ≤ h .kind) × ((h .kind ≤ 3) × (dynamicFits (pos (h .kind)) (pos (h .value)) ≡ true)))
+      (header .kind .least, (header .kind .most, ap₂ dynamicFits (sym (header .kind .is)) (sym (header .value .is)) ∙ header .valueFits))
 
   pub dynamic : (1000 ≤ dynamicFactor (head .kind) (head .value)) × (dynamicFactor (head .kind) (head .value) ≤ 1300)
   dynamic = own (λ h. (1000 ≤ dynamicFactor (h .kind) (h .value)) × (dynamicFactor (h .kind) (h .value) ≤ 1300)) (dynamic-range _ _ (header .dynamic))

@@ -170,6 +170,7 @@ pub record HeaderFits (b : List ℕ) : Type 0 where
   pub wide : Count 300 2079 (wordAt b 4)
   pub kind : Count 1 3 (wordAt b 5)
   pub value : Count 0 5000 (wordAt b 6)
+  pub valueFits : dynamicFits (wordAt b 5) (wordAt b 6) ≡ true
   pub dynamic : DynamicRight (countAt b 5) (countAt b 6)
   pub effects : Count 0 16 (wordAt b 7)
   pub rows : Count 1 32 (wordAt b 8)
@@ -203,7 +204,8 @@ header-fits b e =
     let n = and-eq-true-iff (between (pos 1) (pos 1000) (wordAt b 2)) (leZ (wordAt b 2 *ℤ wordAt b 1) (pos 1000)) .0 (test 1 (omega arith)) in
     let pieces = between-count 1 (pos 1000) (wordAt b 2) (n .0) in
     let kind = between-count 1 (pos 3) (wordAt b 5) (test 4 (omega arith)) in
-    let value = dynamic-words (wordAt b 5) (wordAt b 6) kind (test 5 (omega arith)) in
+    let fits = test 5 (omega arith) in
+    let value = dynamic-words (wordAt b 5) (wordAt b 6) kind fits in
     record {
       length = l .0;
       lengthIs = l .1;
@@ -213,6 +215,7 @@ header-fits b e =
       wide = between-count 300 (pos 2079) (wordAt b 4) (test 3 (omega arith));
       kind = kind;
       value = value .0;
+      valueFits = fits;
       dynamic = value .1;
       effects = between-count 0 (pos 16) (wordAt b 7) (test 6 (omega arith));
       rows = between-count 1 (pos 32) (wordAt b 8) (test 7 (omega arith));

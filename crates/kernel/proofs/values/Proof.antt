@@ -10,7 +10,7 @@ use Rattle.lanes.specs.Fits.{AcrossFits}
 use Rattle.lanes.specs.Traffic.{TrafficFits, EffectsFit, Spanned}
 use Rattle.lanes.specs.declared.traffic.Effects.{Effects}
 use Rattle.kernel.specs.Parts.{effectsOf}
-use Rattle.kernel.proofs.Fits.{sized, across-fits}
+use Rattle.kernel.proofs.Fits.{sized, across-fits, width-limits, dynamic-limits}
 use Rattle.kernel.proofs.Loads.{handed, effects-are, effects-fit, traffic-fits, spanned, factor-is, normal-found, overload-found}
 use borrow.Author.Needs.{needs}
 use Rattle.kernel.proofs.values.Statement.{statement}
@@ -29,10 +29,10 @@ effect-requires-4 : tie.Need-effect-requires-4
 effect-requires-4 c κs = c .before .before .before .before .pre .1 .1 .near
 
 lane-count-requires : tie.Need-lane-count-requires
-lane-count-requires c κs = search needs
+lane-count-requires c κs = width-limits (c .before .before .before .before .before .pre .0)
 
 factor-requires : tie.Need-factor-requires
-factor-requires c κs = search needs
+factor-requires c κs = dynamic-limits (c .before .before .before .before .before .before .pre .0)
 
 transverse-requires : tie.Need-transverse-requires
 transverse-requires c κs = sized (c .before .before .before .before .before .before .before .pre .0)
@@ -115,7 +115,7 @@ returns c =
         nearGreatest = og .ensures .0;
         nearLeast = ol .ensures .0;
       };
-      laneCount = over .lanes;
+      laneCount = over at .lanes;
     }
 
 pub values-spec : {M : Type 1} → statement M
