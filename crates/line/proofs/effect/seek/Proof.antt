@@ -42,6 +42,9 @@ module _ (c : tie.After-best) where
   few : (sense : Sense) → standFor (sought sense) (c .best .result) .station ≤ 1050
   few sense = omega (arith, found sense .station, div-le-self 50 (st .args .h))
 
+  near : (c .best .result .greatest .station ≤ 1050) × (c .best .result .least .station ≤ 1050)
+  near = (few Raising, few Lowering)
+
   abbrev uniform : Sense → ℤ
   uniform sense = uniformFor sense (c .before .uniform-parts .result)
 
@@ -68,10 +71,10 @@ module _ (c : tie.After-best) where
       subst (SoughtRight line sense) (sym (e ∙ ap (of sense) (known w64 (c .before .uniform-parts .ensures sense .1) (lit< tt) .is))) (right sense)
 
 sought-at-requires : tie.Need-sought-at-requires
-sought-at-requires c κs = (c .before .before .before .before .before .before .pre .1 .0, few (c .before .before .before) Raising)
+sought-at-requires c κs = (c .before .before .before .before .before .before .pre .1 .0, omega (arith, near (c .before .before .before)))
 
 sought-at-requires-2 : tie.Need-sought-at-requires-2
-sought-at-requires-2 c κs = (c .before .before .before .before .before .before .before .before .pre .1 .0, few (c .before .before .before .before .before) Lowering)
+sought-at-requires-2 c κs = (c .before .before .before .before .before .before .before .before .pre .1 .0, omega (arith, near (c .before .before .before .before .before)))
 
 returns : tie.Need-returns
 returns c Raising = passed (c .before .before .before .before .before .before) Raising (c .before .before .sought-at .ensures)
