@@ -135,14 +135,14 @@ fn better(q: Question, a: Overload, b: Overload) -> Overload
     a
 }
 
-// HO in a lane, and the set without it.
+// HO in a lane, at the r of one lane, and the set without it.
 fn overload_of(sums: [i64; 32], ho: i64, lane: usize, set: u32) -> Overload
     requires { ⌜ (lane < 6) × (set < 32) ⌝ }
     requires { ⌜ SumsNear sums × Within 25500000000000 ho ⌝ }
     ensures { λ r. ⌜ r ≡ record { value = overloadSum sums ho lane set; lane = lane; set = withoutLane lane set } ⌝ }
 {
     let rest = without(lane, set);
-    let value = 20 * ho + sums[rest as usize];
+    let value = reduction(1) * ho + sums[rest as usize];
     Overload {
         value,
         lane,

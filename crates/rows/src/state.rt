@@ -4,8 +4,10 @@ use exact::Question;
 use model::Governing;
 use model::State;
 ghost use mathlib.Core.Path.{_≡_};
-ghost use Prim.Native.Nat.{_-_, _≤_};
+ghost use Prim.Native.Nat.{_+_, _-_, _*_, _≤_};
+ghost use lib.ListN.{length};
 ghost use Rattle.exact.specs.Bounds.{Within};
+ghost use Rattle.model.specs.Words.{countAt};
 ghost use Rattle.model.specs.Decode.{effectAt, limitOf, liveOf, rowAt};
 ghost use Rattle.rows.specs.Tables.{TablesFit};
 ghost use Rattle.rows.specs.Governed.{trafficOf, LiveFits, RowRight, laterFound, FoundRight, StateFound};
@@ -30,6 +32,14 @@ fn traffic(kind: usize, live: Live) -> i64
     0
 }
 
+// Row r's first record.
+fn first_record(rows: &[u8], r: usize) -> usize
+    requires { ⌜ (1 ≤ r) × (16 * r ≤ length (now rows)) ⌝ }
+    ensures { λ f. ⌜ f ≡ countAt (now (rows .entry)) (4 * (r - 1) + 3) ⌝ }
+{
+    words::count(rows, 4 * (r - 1) + 3)
+}
+
 // Row r's best value.
 fn row(
     q: Question,
@@ -44,7 +54,7 @@ fn row(
     ensures { λ x. ⌜ x .row ≡ r ⌝ }
     ensures { λ x. ⌜ RowRight q (effectAt (now (effects .entry))) (rowAt (now (rows .entry)) (now (records .entry)) count) (trafficOf live) x ⌝ }
 {
-    let first = words::count(rows, 4 * (r - 1) + 3);
+    let first = first_record(rows, r);
     let c = chain::best(q, effects, records, first, count);
     let out = c.out;
     let omitted = chain::omitted(out);

@@ -35,13 +35,13 @@ mul-best : tie.Need-mul-best
 mul-best c = omega (arith, bounds (c .before))
 
 best-requires : tie.Need-best-requires
-best-requires c κs = let b = bounds (c .before) in (b .apart, (b .close, (b .order, b .ordinates)))
+best-requires c κs = let b = bounds (c .before) in (b .apart, (b .close, (omega (arith, b .order), b .ordinates)))
 
 mul-best-2 : tie.Need-mul-best-2
 mul-best-2 c = omega (arith, bounds (c .before .before))
 
 best-requires-2 : tie.Need-best-requires-2
-best-requires-2 c κs = let b = bounds (c .before .before) in (b .apart, (b .close, (b .order, b .ordinates)))
+best-requires-2 c κs = let b = bounds (c .before .before) in (b .apart, (b .close, (omega (arith, b .order), b .ordinates)))
 
 returns : tie.Need-returns
 returns c =

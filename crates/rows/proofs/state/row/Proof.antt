@@ -17,6 +17,18 @@ use borrow.Author.Needs.{needs}
 use Rattle.rows.proofs.state.row.Statement.{statement}
 use Rattle.rows.proofs.state.row.Tie as tie
 
+first-record-requires : tie.Need-first-record-requires
+first-record-requires c κs = search needs
+
+best-requires : tie.Need-best-requires
+best-requires c κs =
+    let s = c .before .before .before .before in
+    let f = s .pre .0 .rows (s .args .r) (s .pre .1) (le-refl (s .args .r)) in
+    (s .pre .0 .effects, s .pre .0 .records, rw (c .first-record .ensures) (f .first), s .pre .0 .most, rw (c .first-record .ensures) (f .distinct))
+
+omitted-requires : tie.Need-omitted-requires
+omitted-requires c κs = search needs
+
 sub-count : tie.Need-sub-count
 sub-count c = search needs
 
@@ -28,15 +40,6 @@ add-count c = search needs
 
 count-requires : tie.Need-count-requires
 count-requires c κs = search needs
-
-best-requires : tie.Need-best-requires
-best-requires c κs =
-    let s = c .before .before .before .before in
-    let f = s .pre .0 .rows (s .args .r) (s .pre .1) (le-refl (s .args .r)) in
-    (s .pre .0 .effects, s .pre .0 .records, rw (c .count .ensures .0) (f .first), s .pre .0 .most, rw (c .count .ensures .0) (f .distinct))
-
-omitted-requires : tie.Need-omitted-requires
-omitted-requires c κs = search needs
 
 sub-count-2 : tie.Need-sub-count-2
 sub-count-2 c = search needs
@@ -50,43 +53,31 @@ add-count-2 c = search needs
 count-requires-2 : tie.Need-count-requires-2
 count-requires-2 c κs = search needs
 
-sub-count-3 : tie.Need-sub-count-3
-sub-count-3 c = search needs
-
-mul-count-3 : tie.Need-mul-count-3
-mul-count-3 c = search needs
-
-add-count-3 : tie.Need-add-count-3
-add-count-3 c = search needs
-
-count-requires-3 : tie.Need-count-requires-3
-count-requires-3 c κs = search needs
-
 cast-loaded : tie.Need-cast-loaded
 cast-loaded c = search needs
 
 traffic-requires : tie.Need-traffic-requires
 traffic-requires c κs =
     let s = c .before .before .before .before .before .before .before .before .before in
-    (rw (c .before .count2 .ensures .0) (s .pre .0 .rows (s .args .r) (s .pre .1) (le-refl (s .args .r)) .live), s .pre .2)
+    (rw (c .before .count .ensures .0) (s .pre .0 .rows (s .args .r) (s .pre .1) (le-refl (s .args .r)) .live), s .pre .2)
 
 -- the factor, and the row's traffic
-factor : (c : tie.After-count3) → Held w64 (c .count3 .result) 3000 (pos (countAt (c .before .before .before .before .before .before .before .before .before .args .rows .now) (4 * (c .before .before .before .before .before .before .before .before .before .args .r - 1) + 2)))
+factor : (c : tie.After-count2) → Held w64 (c .count2 .result) 3000 (pos (countAt (c .before .before .before .before .before .before .before .before .before .args .rows .now) (4 * (c .before .before .before .before .before .before .before .before .before .args .r - 1) + 2)))
 factor c =
     let s = c .before .before .before .before .before .before .before .before .before in
     let l = s .pre .0 .rows (s .args .r) (s .pre .1) (le-refl (s .args .r)) .factor in
-    subst (λ (k : ℕ). Held w64 (c .count3 .result) 3000 (pos k)) (c .count3 .ensures .0) (nat w64 3000 (rw (c .count3 .ensures .0) l) (omega arith))
+    subst (λ (k : ℕ). Held w64 (c .count2 .result) 3000 (pos k)) (c .count2 .ensures .0) (nat w64 3000 (rw (c .count2 .ensures .0) l) (omega arith))
 
 value : (c : tie.After-traffic) → Held w64 (ofZ w64 (c .traffic .result)) 1000000000000 (trafficOf (c .before .before .before .before .before .before .before .before .before .before .args .live) (liveOf (countAt (c .before .before .before .before .before .before .before .before .before .before .args .rows .now) (4 * (c .before .before .before .before .before .before .before .before .before .before .args .r - 1) + 1))))
 value c =
     let a = c .before .before .before .before .before .before .before .before .before .before .args in
-    retold (got w64 (c .traffic .ok) (c .traffic .ensures)) (ap (λ (k : ℕ). trafficOf (a .live) (liveOf k)) (c .before .before .count2 .ensures .0))
+    retold (got w64 (c .traffic .ok) (c .traffic .ensures)) (ap (λ (k : ℕ). trafficOf (a .live) (liveOf k)) (c .before .before .count .ensures .0))
 
 -- the chain's value
 chained : (c : tie.After-best) → ChainRight (c .before .before .before .before .before .args .q) (effectAt (c .before .before .before .before .before .args .effects .now)) (rowAt (c .before .before .before .before .before .args .rows .now) (c .before .before .before .before .before .args .records .now) (c .before .before .before .before .before .args .count) (c .before .before .before .before .before .args .r) .chain) (c .before .before .before .before .before .args .count) (c .best .result)
 chained c =
     let a = c .before .before .before .before .before .args in
-    subst (λ (k : ℕ). ChainRight (a .q) (effectAt (a .effects .now)) (termsFrom (a .records .now) (a .count) k) (a .count) (c .best .result)) (c .before .count .ensures .0) (c .best .ensures)
+    subst (λ (k : ℕ). ChainRight (a .q) (effectAt (a .effects .now)) (termsFrom (a .records .now) (a .count) k) (a .count) (c .best .result)) (c .before .first-record .ensures) (c .best .ensures)
 
 mul-loaded : tie.Need-mul-loaded
 mul-loaded c = times! (factor (c .before)) (value c) (lit< tt)
@@ -130,20 +121,17 @@ pub row-spec : {M : Type 1} → statement M
 row-spec =
     tie.close
     (tie.spec
+    first-record-requires
+    best-requires
+    omitted-requires
     sub-count
     mul-count
     add-count
     count-requires
-    best-requires
-    omitted-requires
     sub-count-2
     mul-count-2
     add-count-2
     count-requires-2
-    sub-count-3
-    mul-count-3
-    add-count-3
-    count-requires-3
     cast-loaded
     traffic-requires
     mul-loaded
