@@ -33,6 +33,18 @@ is-refused r n e = sym e ∙ ap (λ (t : Bool). if t then none else some (record
 is-accepted : (r : Ruling) {v : Option Refusal} → r .number ≡ 0 → (if eqb (r .number) 0 then none else some (record { number = r .number; place = r .place })) ≡ v → v ≡ none
 is-accepted r n e = sym e ∙ ap (λ (t : Bool). if t then none else some (record { number = r .number; place = r .place })) (eq-eqb (r .number) 0 n)
 
+verdict-requires : tie.Need-verdict-requires
+verdict-requires c κs = search needs
+
+refused-requires : tie.Need-refused-requires
+refused-requires c κs = search needs
+
+returns : tie.Need-returns
+returns c =
+    let s = c .before .before .before .before .before .before in
+    let v = c .before .before .before .verdict in
+    refused _ (is-refused (v .result) (c .before .if1 .taken) (v .ensures .says)) (c .refused .ensures) refl
+
 abbrev ready : (c : tie.After-read) → Ready (c .before .before .before .before .before .before .args .job .now) (c .read .result)
 ready c = record {
   own = c .read .ensures;
@@ -55,18 +67,6 @@ answers {b} {before} {after} {line} {head} r l m a p v =
       account = subst (λ (l : List ℕ). AccountRight (decode b) l a) (sym marked) (account-right (decode b) (signed r) (spaced r) (drop (pieceCount b) before) a p);
       patch = marked;
     })
-
-verdict-requires : tie.Need-verdict-requires
-verdict-requires c κs = search needs
-
-refused-requires : tie.Need-refused-requires
-refused-requires c κs = search needs
-
-returns : tie.Need-returns
-returns c =
-    let s = c .before .before .before .before .before .before in
-    let v = c .before .before .before .verdict in
-    refused _ (is-refused (v .result) (c .before .if1 .taken) (v .ensures .says)) (c .refused .ensures) refl
 
 read-requires : tie.Need-read-requires
 read-requires c κs = has-header _ (clear _ _ (is-accepted (c .before .before .verdict .result) (c .if1 .left) (c .before .before .verdict .ensures .says)) .c1)
