@@ -9,6 +9,7 @@ use lib.ListN.{getD}
 use mir.Syntax.{w64}
 use mir.Val.{toZ, ofZ}
 use Rattle.exact.specs.Parts.{up}
+use Rattle.exact.proofs.Bounds.{within-le}
 use Rattle.exact.proofs.Held.{Room, known, told}
 use Rattle.exact.specs.declared.Question.{Question}
 use Rattle.model.specs.Job.{Job, normal, overload}
@@ -59,6 +60,10 @@ module _ (job : Job) (kind : Kind) {raising lowering : Sought} (above : SoughtRi
     raising = told (known w64 (a .near) (room kind)) .1;
     lowering = told (known w64 (b .near) (room kind)) .1;
   }
+
+-- a wider bound
+pub wider : {m n : ℕ} {e : Effects} → m ≤ n → EffectsFit m e → EffectsFit n e
+wider h f = record { up = f .up; down = f .down; raising = within-le (f .raising) h; lowering = within-le (f .lowering) h }
 
 -- the spans as they were found
 module _ {b : List ℕ} {head : Header} (ready : Ready b head) {across : List ℕ} (found : across ≡ transverseSection b) (spans : List Span) {n d : ℕ}

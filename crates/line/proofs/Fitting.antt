@@ -7,6 +7,10 @@ use Rattle.line.specs.Fits.{PieceFits, LineFits}
 pub fits-piece : {s : List ℕ} {n : ℕ} → LineFits s n → (i : ℕ) → i < n → PieceFits s i
 fits-piece f i h = record { room = omega (arith, f .room); left = f .near (2 * i) (omega arith); right = f .near (2 * i + 1) (omega arith) }
 
+-- fewer pieces fit too
+pub fits-fewer : {s : List ℕ} {m n : ℕ} → LineFits s n → m ≤ n → LineFits s m
+fits-fewer f h = record { room = omega (arith, f .room); few = omega (arith, f .few); near = λ k l. f .near k (omega arith) }
+
 -- N times h is at most 1000, so h times the sum of N pieces is at most 10000000
 pub area-room : (h n : ℕ) → n * h ≤ 1000 → h * (10000 * n) ≤ 10000000
 area-room h n l = omega arith

@@ -3,6 +3,7 @@ use mathlib.Core.Bool.{Bool}
 use mathlib.Core.Option.{Option, none, some}
 use mathlib.Core.List.{List, _++_}
 use Prim.Native.Nat.{ℕ, _≤_}
+use native.Mathlib.Omega.{arith}
 use borrow.Author.Tests.{ne-eqb, eq-eqb}
 use lib.Dec.{eqb}
 use lib.ListN.{length, drop}
@@ -17,6 +18,7 @@ use Rattle.job.specs.declared.header.Header.{Header}
 use Rattle.job.specs.declared.refusals.Ruling.{Ruling}
 use Rattle.job.proofs.Rulings.{has-header}
 use Rattle.line.specs.Fits.{LineFits}
+use Rattle.line.proofs.Fitting.{fits-fewer}
 use Rattle.model.specs.declared.Account.{Account}
 use Rattle.kernel.specs.Parts.{Ready, PartsRight}
 use Rattle.kernel.proofs.Fits.{sized, line-fits, signed, spaced}
@@ -79,10 +81,10 @@ line-requires c κs = sized (ready (c .before))
 
 mark-requires : tie.Need-mark-requires
 mark-requires c κs =
-    let r = ready (c .before .before .before) in (
-      subst (λ (l : List ℕ). LineFits l (c .before .before .before .read .result .pieces)) (sym (c .before .line .ensures)) (line-fits r),
-      subst (λ (h : Header). h .pieces ≤ r .patch) (sym (r .own)) (patch-fits _ _ (clear _ _ (r .accepted) .c9)),
-    )
+    let r = ready (c .before .before .before) in
+    let fits = subst (λ (l : List ℕ). LineFits l (c .before .before .before .read .result .pieces)) (sym (c .before .line .ensures)) (line-fits r) in
+    let room = subst (λ (h : Header). h .pieces ≤ r .patch) (sym (r .own)) (patch-fits _ _ (clear _ _ (r .accepted) .c9)) in
+    (fits-fewer fits (omega arith), omega (arith, room))
 
 same-length : tie.Need-same-length
 same-length c = search needs

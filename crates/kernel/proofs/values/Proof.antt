@@ -1,6 +1,7 @@
 use mathlib.Core.Path.{_≡_, sym, subst}
 use mathlib.Core.List.{List}
 use Prim.Native.Nat.{ℕ}
+use lib.Dec.{lit≤}
 use Rattle.exact.specs.declared.Question.{Question}
 use Rattle.exact.specs.declared.Question.the-variants.{Greatest, Least}
 use Rattle.model.specs.Job.{Job}
@@ -11,7 +12,7 @@ use Rattle.lanes.specs.Traffic.{TrafficFits, EffectsFit, Spanned}
 use Rattle.lanes.specs.declared.traffic.Effects.{Effects}
 use Rattle.kernel.specs.Parts.{effectsOf}
 use Rattle.kernel.proofs.Fits.{sized, across-fits, width-limits, dynamic-limits}
-use Rattle.kernel.proofs.Loads.{handed, effects-are, effects-fit, traffic-fits, spanned, factor-is, normal-found, overload-found}
+use Rattle.kernel.proofs.Loads.{handed, effects-are, effects-fit, wider, traffic-fits, spanned, factor-is, normal-found, overload-found}
 use borrow.Author.Needs.{needs}
 use Rattle.kernel.proofs.values.Statement.{statement}
 use Rattle.kernel.proofs.values.Tie as tie
@@ -67,6 +68,9 @@ module _ (c : tie.After-spans) where
   hn-fit : EffectsFit 86000000 hn
   hn-fit = effects-fit job HN (st .pre .1 .0) (st .pre .1 .1) (formed .before .before .before .effect .ensures) (formed .before .before .effect2 .ensures)
 
+  hn-wide : EffectsFit 102000000 hn
+  hn-wide = wider (lit≤ tt) hn-fit
+
   ho-are : ho ≡ effectsOf job HO
   ho-are = effects-are job HO (st .pre .1 .0) (st .pre .1 .1) (formed .before .effect3 .ensures) (formed .effect4 .ensures)
 
@@ -89,7 +93,7 @@ normal-requires-2 : tie.Need-normal-requires-2
 normal-requires-2 c κs = normal-requires (c .before) κs
 
 overload-requires : tie.Need-overload-requires
-overload-requires c κs = let d = c .before .before in (fits d, (hn-fit d, ho-fit d))
+overload-requires c κs = let d = c .before .before in (fits d, (hn-fit d, search (hn-wide d, ho-fit d)))
 
 overload-requires-2 : tie.Need-overload-requires-2
 overload-requires-2 c κs = overload-requires (c .before) κs
