@@ -96,7 +96,7 @@ overload-requires : tie.Need-overload-requires
 overload-requires c κs = let d = c .before .before in (fits d, (hn-fit d, search (hn-wide d, ho-fit d)))
 
 overload-requires-2 : tie.Need-overload-requires-2
-overload-requires-2 c κs = overload-requires (c .before) κs
+overload-requires-2 c κs = let d = c .before .before .before in (fits d, (hn-fit d, search (hn-wide d, ho-fit d)))
 
 returns : tie.Need-returns
 returns c =
