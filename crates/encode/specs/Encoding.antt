@@ -25,10 +25,11 @@ use Rattle.model.specs.declared.Account.{Account}
 abbrev pub layout : ℕ
 layout = 1
 
--- the numbers of an account, and its bytes
+-- how many numbers an account has
 abbrev pub accountCount : ℕ
 accountCount = 157
 
+-- how many bytes
 abbrev pub accountSize : ℕ
 accountSize = 8 * accountCount
 
@@ -125,14 +126,16 @@ pub record Stored (before : List ℕ) (at : ℕ) (numbers : List ℤ) (after : L
   pub is : after ≡ sets before at (bytesOf numbers)
   pub fit : AllFit numbers
 
--- the counts that a type of 64 bits without sign holds are below 2 ^ 63, so that they are read back as they are
+-- a live kind's centres, in n-ths of a cm, are read back as they are by a reader of signed numbers
 abbrev pub CentresFit : Traffic → Type 0
 CentresFit t = (i : ℕ) → (laneAt (t .greatest .placement) i .centre < 2 ^ 63) × (laneAt (t .least .placement) i .centre < 2 ^ 63)
 
+-- so are a limit state's rows
 abbrev pub RowsFit : State → Type 0
 RowsFit Absent = Unit {0}
 RowsFit (Reported greatest least) = (greatest .row < 2 ^ 63) × (least .row < 2 ^ 63)
 
+-- so is every count of an account
 pub record CountsFit (a : Account) : Type 0 where
   pub normal : CentresFit (a .normal)
   pub overload : CentresFit (a .overload)

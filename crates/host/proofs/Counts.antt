@@ -21,7 +21,7 @@ use Rattle.model.specs.declared.Entry.the-variants.{Unloaded, Hn, Ho}
 use Rattle.model.specs.declared.Extreme.{Extreme}
 use Rattle.model.specs.declared.State.{State}
 use Rattle.model.specs.declared.State.the-variants.{Absent, Reported}
-use Rattle.model.proofs.Accepted.{clear, header-fits}
+use Rattle.model.proofs.Accepted.{HeaderFits, clear, header-fits}
 use Rattle.model.proofs.Lanes.{lane-count}
 use Rattle.encode.specs.Encoding.{CentresFit, RowsFit, CountsFit}
 
@@ -72,7 +72,6 @@ unfolding decode
 counts-fit (refused r v u p) =
     subst (λ (y : Answer). CountsFit (y .account)) (sym u) (record { normal = zero-centres; overload = zero-centres; service = tt; ultimate = tt; lanes = omega arith })
 counts-fit {b} {before} {after} {x} (accepted v r) =
-    let header = header-fits b (clear b _ v .c2) in
     let a = x .account in
     let right = r .account in
     let n = lane-count (decode b .deck .width) in
@@ -84,5 +83,8 @@ counts-fit {b} {before} {after} {x} (accepted v r) =
       lanes = omega (arith, right .laneCount);
     }
   where
+    header : HeaderFits b
+    header = header-fits b (clear b _ v .c2)
+
     small : {q : Question} {live : Live} (y : Extreme) → TrafficRight (decode b) after (x .account) q live y → (i : ℕ) → laneAt (y .placement) i .centre < 2 ^ 63
-    small y t i = centre-small (decode b) after (x .account) (header-fits b (clear b _ v .c2) .wide .most) (header-fits b (clear b _ v .c2) .rows .most) y t i
+    small y t i = centre-small (decode b) after (x .account) (header .wide .most) (header .rows .most) y t i
