@@ -19,7 +19,7 @@ use Rattle.model.specs.Traffic.{lanes, bestInLane, laneEffect}
 use Rattle.model.specs.Arrangements.{Element, elementLine, elementEffect}
 use Rattle.model.specs.declared.Sense.the-variants.{Raising, Lowering}
 use Rattle.model.proofs.Lanes.{lane-count}
-use Rattle.model.proofs.Accepted.{OneSigned}
+use Rattle.model.proofs.LineLimits.{OneSigned}
 use Rattle.model.proofs.Signs.{between-products}
 use Rattle.model.proofs.Uniform.{line-bound}
 

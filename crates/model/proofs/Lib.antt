@@ -2,6 +2,13 @@ pub mod Figures
 pub mod Pigeonhole
 pub mod Chains
 pub mod Determined
+pub mod Sections
+pub mod Fits
+pub mod Counts
+pub mod Verdict
+pub mod HeaderLimits
+pub mod LineLimits
+pub mod TableLimits
 pub mod Accepted
 pub mod Lanes
 pub mod Signs

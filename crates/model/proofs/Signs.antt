@@ -26,7 +26,7 @@ use Rattle.exact.proofs.Ranges.{sum-mono, sum-zero}
 use Rattle.exact.proofs.Rounding.{rounded-mono}
 use Rattle.model.specs.Job.{Piece, InfluenceLine, Job, Live, noTraffic, normal, overload}
 use Rattle.model.specs.Decode.{decode}
-use Rattle.model.specs.Refusals.{verdict}
+use Rattle.model.specs.Refusals.{jobVerdict}
 use Rattle.model.specs.Line.{Kind, HN, HO, axle, axleSpacing, ordinate, pair, endSum, patchByte, loadedByte, sought, loadedSum, uniformPart, station, bestPair, lineEffect}
 use Rattle.model.specs.Lanes.{lanesOf, reduction, lowest, highest, transverseUnit, transverseAt, without}
 use Rattle.model.specs.Traffic.{lanes, bestInLane, laneEffect, setSum, bestNormal, bestOverload, bestSum, effectOf, trafficValue}
@@ -194,5 +194,5 @@ traffic-zero q job live g =
     (multiple-zero q 3 _ (multiple-zero q (job .dynamic q) x (sum-zero-bound q job live))))
 
 -- so of an accepted job no greatest traffic value is below 0, and no least above
-pub zero-no-better : (b : List ℕ) (patch : ℕ) → verdict b patch ≡ none → (q : Question) (live : Live) → NoBetter q (pos 0) (trafficValue q (decode b) live)
-zero-no-better b patch e q live = traffic-zero q (decode b) live (accepted-spaced b patch e)
+pub zero-no-better : (b : List ℕ) → jobVerdict b ≡ none → (q : Question) (live : Live) → NoBetter q (pos 0) (trafficValue q (decode b) live)
+zero-no-better b e q live = traffic-zero q (decode b) live (accepted-spaced b e)

@@ -18,7 +18,7 @@ use Rattle.model.specs.Traffic.{trafficValue}
 use Rattle.model.specs.Rows.{share, chainValue, rowValue, MayOmit, bestChain, bestRow, Governs, laterIfBetter, isOf, governing, stateValue}
 use Rattle.model.specs.Arrangements.{Arrangement, arranged, Lawful}
 use Rattle.model.specs.Answered.{RowOf}
-use Rattle.model.proofs.Accepted.{OneSigned}
+use Rattle.model.proofs.LineLimits.{OneSigned}
 use Rattle.model.proofs.Signs.{multiple-zero}
 use Rattle.model.proofs.Unbeaten.{unbeaten}
 

@@ -21,13 +21,14 @@ use Rattle.exact.proofs.Ranges.{sum-mono, sum-scale, sum-zero, sum-one, count-n
 use Rattle.exact.proofs.Rounding.{rounded-cross}
 use Rattle.model.specs.Job.{Job, Live, noTraffic, normal, overload}
 use Rattle.model.specs.Decode.{decode}
-use Rattle.model.specs.Refusals.{verdict}
+use Rattle.model.specs.Refusals.{jobVerdict}
 use Rattle.model.specs.Line.{Kind, HN, HO}
 use Rattle.model.specs.Lanes.{reduction, without}
 use Rattle.model.specs.Traffic.{lanes, laneEffect, setSum, bestNormal, bestOverload, bestSum, effectOf, trafficValue}
 use Rattle.model.specs.Arrangements.{Element, Load, unloaded, element, Arrangement, elementEffect, carries, loadEffect, lanesUnder, sumUnder, sumOf, arranged, OverloadLanes, Lawful}
 use Rattle.model.proofs.Lanes.{lane-count}
-use Rattle.model.proofs.Accepted.{OneSigned, accepted-signed, accepted-spaced}
+use Rattle.model.proofs.LineLimits.{OneSigned}
+use Rattle.model.proofs.Accepted.{accepted-signed, accepted-spaced}
 use Rattle.model.proofs.Uniform.{either}
 use Rattle.model.proofs.Centre.{lane-bound}
 use Rattle.model.proofs.Sets.{setNumber, set-below, set-bit, set-sum}
@@ -168,6 +169,6 @@ module _ (q : Question) (job : Job) (live : Live) (k : ℕ) (a : Arrangement) (s
       (no-better-scale q (800000 * g * (3 * y)) _ _ (no-better-trans q _ _ _ sum-bound (no-better-scale q c _ _ (best-bound q job a live (law .kinds)))))))
 
 -- and so of every accepted job
-pub accepted-unbeaten : (b : List ℕ) (patch : ℕ) → verdict b patch ≡ none → (q : Question) (live : Live) (k : ℕ) (a : Arrangement) → Lawful (decode b) live k a →
+pub accepted-unbeaten : (b : List ℕ) → jobVerdict b ≡ none → (q : Question) (live : Live) (k : ℕ) (a : Arrangement) → Lawful (decode b) live k a →
     NoBetter q (arranged q (decode b) k a) (trafficValue q (decode b) live)
-accepted-unbeaten b patch e q live k a law = unbeaten q (decode b) live k a (accepted-signed b patch e) (accepted-spaced b patch e) law
+accepted-unbeaten b e q live k a law = unbeaten q (decode b) live k a (accepted-signed b e) (accepted-spaced b e) law

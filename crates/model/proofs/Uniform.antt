@@ -21,7 +21,7 @@ use Rattle.model.specs.Job.{Piece, InfluenceLine}
 use Rattle.model.specs.Line.{axle, uniform, along, endSum, patchByte, loadedByte, sought, loadedSum, uniformPart, bestPair, lineEffect}
 use Rattle.model.specs.Arrangements.{Element, loadedParts, elementLine}
 use Rattle.model.specs.declared.Sense.{Sense}
-use Rattle.model.proofs.Accepted.{Sided, above, below, OneSigned}
+use Rattle.model.proofs.LineLimits.{Sided, above, below, OneSigned}
 use Rattle.model.proofs.Signs.{loaded-bound, multiple-zero, axle-scale}
 use Rattle.model.proofs.Pair.{pair-bound}
 

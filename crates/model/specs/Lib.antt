@@ -1,6 +1,7 @@
 pub mod Words
 pub mod Job
-pub mod Sections
+pub mod Fields
+pub mod Format
 pub mod Chains
 pub mod Dynamic
 pub mod Decode

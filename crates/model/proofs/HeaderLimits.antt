@@ -1,0 +1,121 @@
+-- Refusal 2: a job without it has each header word within its limits.
+use mathlib.Core.Path.{_≡_, refl, sym, _∙_, ap, subst}
+use mathlib.Core.Logic.{inl, inr}
+use mathlib.Core.Bool.{Bool, true, false, true≢false, and-eq-true-iff}
+use mathlib.Core.Option.{none}
+use mathlib.Core.List.{List, [], _∷_}
+use Prim.Native.Nat.{ℕ, _+_, _*_, _/_, _≤_, _<_}
+use native.Mathlib.Omega.{arith}
+use lib.IntN.{ℤ, pos, _*ℤ_}
+use lib.ListN.{getD}
+use lib.Signed.{_≤ℤ_, leZ}
+use Rattle.exact.specs.Choice.{if_then_else_, between}
+use Rattle.exact.specs.Parts.{up}
+use Rattle.exact.proofs.Bridge.{by-test, ≤→ℕ}
+use Rattle.exact.proofs.Tests.{leZ-true}
+use Rattle.model.specs.Words.{wordAt, countAt}
+use Rattle.model.specs.Fields.{free, itemFrom}
+use Rattle.model.specs.Format.{headerOf, is, dynamicFits, layout, sectionOf}
+use Rattle.model.specs.Dynamic.{dynamicFactor}
+use Rattle.model.specs.Refusals.{fault2}
+use Rattle.model.specs.declared.Part.the-variants.{Head}
+use Rattle.model.proofs.Counts.{Count, between-count, OneOf, one-of}
+use Rattle.model.proofs.Sections.{section-word}
+use Rattle.model.proofs.Fits.{or-none, moved-none, fits}
+
+-- words 5 and 6: a kind with its value
+pub data DynamicRight (kind value : ℕ) : Type 0 where
+  read : kind ≡ 1 → 1000 ≤ value → value ≤ 1300 → DynamicRight kind value
+  buried : kind ≡ 2 → value ≡ 0 → DynamicRight kind value
+  culvert : kind ≡ 3 → value ≤ 5000 → DynamicRight kind value
+
+-- each header word within its limits
+pub record HeaderFits (b : List ℕ) : Type 0 where
+  pub length : OneOf (1 ∷ 2 ∷ 5 ∷ 10 ∷ 25 ∷ 50 ∷ []) (headerOf b .h)
+  pub lengthIs : wordAt b 1 ≡ pos (headerOf b .h)
+  pub pieces : Count 1 1000 (wordAt b 2)
+  pub reach : headerOf b .pieces * headerOf b .h ≤ 1000
+  pub spacing : Count 10 50 (wordAt b 3)
+  pub wide : Count 300 2079 (wordAt b 4)
+  pub kind : Count 1 3 (wordAt b 5)
+  pub value : Count 0 5000 (wordAt b 6)
+  pub valueFits : dynamicFits (wordAt b 5) (wordAt b 6) ≡ true
+  pub dynamic : DynamicRight (countAt b 5) (countAt b 6)
+  pub effects : Count 0 16 (wordAt b 7)
+  pub rows : Count 1 32 (wordAt b 8)
+  pub records : Count 0 512 (wordAt b 9)
+
+dynamic-words : (x y : ℤ) → Count 1 3 x → dynamicFits x y ≡ true → Count 0 5000 y × DynamicRight (up x) (up y)
+dynamic-words x y c =
+    by-test (is 1 x) (λ t. (if t then between (pos 1000) (pos 1300) y else (if is 2 x then is 0 y else between (pos 0) (pos 5000) y)) ≡ true → Count 0 5000 y × DynamicRight (up x) (up y))
+    (λ t e.
+    let k = between-count 1 1 x t in
+    let v = between-count 1000 1300 y e in
+    (record { is = v .is; least = omega arith; most = omega (arith, v .most) }, read (omega (arith, k .least, k .most)) (v .least) (v .most)))
+    (by-test (is 2 x) (λ t. is 1 x ≡ false → (if t then is 0 y else between (pos 0) (pos 5000) y) ≡ true → Count 0 5000 y × DynamicRight (up x) (up y))
+    (λ t _ e.
+    let k = between-count 2 2 x t in
+    let v = between-count 0 0 y e in
+    (record { is = v .is; least = omega arith; most = omega (arith, v .most) }, buried (omega (arith, k .least, k .most)) (omega (arith, v .most))))
+    (λ t f e. let v = between-count 0 5000 y e in (v, culvert (third f t) (v .most))))
+  where
+    other : (m : ℕ) → is m x ≡ false → is m (pos m) ≡ true → ¬ (up x ≡ m)
+    other m f t e = true≢false (sym t ∙ ap (is m) (ap pos (sym e) ∙ sym (c .is)) ∙ f)
+
+    third : is 1 x ≡ false → is 2 x ≡ false → up x ≡ 3
+    third f t = let a = other 1 f refl in let b = other 2 t refl in omega (arith, c .least, c .most)
+
+-- a job without fault 2 has a header within its limits
+pub header-fits : (b : List ℕ) → fault2 b ≡ none → HeaderFits b
+unfolding fault2
+header-fits b e =
+    let l = one-of (1 ∷ 2 ∷ 5 ∷ 10 ∷ 25 ∷ 50 ∷ []) (itemFrom (sectionOf b Head) 0 0) (wordAt b 1) (rw (word 1 (omega arith)) at (field 1 (omega arith))) in
+    let n = and-eq-true-iff (between (pos 1) (pos 1000) (wordAt b 2)) (leZ (wordAt b 2 *ℤ wordAt b 1) (pos 1000)) .0 (rw (word 2 (omega arith), word 1 (omega arith)) at (field 2 (omega arith))) in
+    let pieces = between-count 1 1000 (wordAt b 2) (n .0) in
+    let kind = count 5 1 3 (omega arith) (field 5 (omega arith)) in
+    let fits : dynamicFits (wordAt b 5) (wordAt b 6) ≡ true = rw (word 5 (omega arith), word 6 (omega arith)) at (field 6 (omega arith)) in
+    let value = dynamic-words (wordAt b 5) (wordAt b 6) kind fits in
+    record {
+      length = l .0;
+      lengthIs = l .1;
+      pieces = pieces;
+      reach = product (pieces .is) (l .1) (leZ-true _ _ (n .1));
+      spacing = count 3 10 50 (omega arith) (field 3 (omega arith));
+      wide = count 4 300 2079 (omega arith) (field 4 (omega arith));
+      kind = kind;
+      value = value .0;
+      valueFits = fits;
+      dynamic = value .1;
+      effects = count 7 0 16 (omega arith) (field 7 (omega arith));
+      rows = count 8 1 32 (omega arith) (field 8 (omega arith));
+      records = count 9 0 512 (omega arith) (field 9 (omega arith));
+    }
+  where
+    -- the header's words are the job's first
+    word : (q : ℕ) → q < 10 → wordAt (sectionOf b Head) q ≡ wordAt b q
+    word q h = let g : 0 + q ≡ q = omega arith in section-word b (headerOf b) Head q h ∙ ap (wordAt b) g
+
+    field : (q : ℕ) → q < 10 → getD (layout (headerOf b) Head .fields) q free (itemFrom (sectionOf b Head) 0 0) (wordAt (sectionOf b Head) (0 + q)) ≡ true
+    field q h = fits (layout (headerOf b) Head) (sectionOf b Head) (moved-none 0 _ (or-none _ none e .0)) 0 q (omega arith) h
+
+    count : (q lo hi : ℕ) → q < 10 → between (pos lo) (pos hi) (wordAt (sectionOf b Head) q) ≡ true → Count lo hi (wordAt b q)
+    count q lo hi h t = between-count lo hi (wordAt b q) (rw (word q h) at t)
+
+    product : {x y : ℤ} {m n : ℕ} → x ≡ pos m → y ≡ pos n → (x *ℤ y) ≤ℤ pos 1000 → m * n ≤ 1000
+    product {x} {y} {m} {n} e f h = omega (arith, ≤→ℕ (subst (λ (z : ℤ). (pos m *ℤ z) ≤ℤ pos 1000) f (subst (λ (z : ℤ). (z *ℤ y) ≤ℤ pos 1000) e h)))
+
+-- 50 dm is a whole number of pieces
+pub whole-spacing : (h : ℕ) → OneOf (1 ∷ 2 ∷ 5 ∷ 10 ∷ 25 ∷ 50 ∷ []) h → (0 < h) × (50 / h * h ≡ 50)
+whole-spacing h (inl e) = rw e (omega arith, refl)
+whole-spacing h (inr (inl e)) = rw e (omega arith, refl)
+whole-spacing h (inr (inr (inl e))) = rw e (omega arith, refl)
+whole-spacing h (inr (inr (inr (inl e)))) = rw e (omega arith, refl)
+whole-spacing h (inr (inr (inr (inr (inl e))))) = rw e (omega arith, refl)
+whole-spacing h (inr (inr (inr (inr (inr (inl e)))))) = rw e (omega arith, refl)
+
+-- the dynamic factor is from 1000 to 1300 thousandths
+pub dynamic-range : (kind value : ℕ) → DynamicRight kind value → (1000 ≤ dynamicFactor kind value) × (dynamicFactor kind value ≤ 1300)
+unfolding dynamicFactor
+dynamic-range kind value (read e l h) = rw e (l, h)
+dynamic-range kind value (buried e f) = rw e (omega arith)
+dynamic-range kind value (culvert e h) = rw e (omega arith)

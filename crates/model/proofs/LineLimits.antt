@@ -1,0 +1,72 @@
+-- Refusals 4 and 5: a job without them has ordinates within their limits, and pieces of one sign.
+use mathlib.Core.Path.{_≡_, refl}
+use mathlib.Core.Bool.{Bool, true, false, not, _&&_, _||_, true≢false}
+use mathlib.Core.Option.{none}
+use mathlib.Core.List.{List}
+use Prim.Native.Nat.{ℕ, _+_, _*_, _/_, _%_, _<_}
+use native.Mathlib.Decide.{decLe}
+use native.Mathlib.Omega.{arith}
+use lib.IntN.{ℤ, pos}
+use lib.Signed.{_≤ℤ_, ltZ}
+use borrow.Author.Tests.{not-true}
+use Rattle.exact.specs.Bounds.{Within}
+use Rattle.exact.proofs.Order.{lt→le}
+use Rattle.exact.proofs.Tests.{ltZ-true, ltZ-false}
+use Rattle.model.specs.Words.{wordAt}
+use Rattle.model.specs.Format.{headerOf, layout, words, sectionOf}
+use Rattle.model.specs.Job.{Piece, InfluenceLine}
+use Rattle.model.specs.Decode.{decode}
+use Rattle.model.specs.Fields.{misfit}
+use Rattle.model.specs.Refusals.{crosses, signs, fault4, fault5}
+use Rattle.model.specs.declared.Part.the-variants.{Line, Transverse}
+use Rattle.model.proofs.Counts.{between-within}
+use Rattle.model.proofs.Fits.{or-none, moved-none, fits, first-fits}
+
+-- ---- 4: ordinates
+module _ (b : List ℕ) (clear : fault4 b ≡ none) where
+  -- neither line has a place at fault
+  ordinates : (misfit (layout (headerOf b) Line) (sectionOf b Line) ≡ none) × (misfit (layout (headerOf b) Transverse) (sectionOf b Transverse) ≡ none)
+  unfolding fault4
+  ordinates = let r = or-none _ _ clear in (moved-none _ _ (r .0), moved-none _ _ (or-none _ none (r .1) .0))
+
+  -- its ordinates are from -5000 to 5000
+  pub line-within : (k : ℕ) → k < words (headerOf b) Line → Within 5000 (wordAt (sectionOf b Line) k)
+  line-within k h =
+      let s = sectionOf b Line in
+      let i = k / 2 in
+      elim (decLe (k % 2) 0) [
+        | yes z ↦ let e : 2 * i ≡ k = omega arith in rw e at (between-within 5000 (wordAt s (2 * i)) (first-fits (layout (headerOf b) Line) s (ordinates .0) i (omega arith) (omega arith)))
+        | no z ↦ let e : 2 * i + 1 ≡ k = omega arith in rw e at (between-within 5000 (wordAt s (2 * i + 1)) (fits (layout (headerOf b) Line) s (ordinates .0) i 1 (omega arith) (omega arith)))
+      ]
+
+  -- and its transverse ordinates from -1000 to 1000 thousandths
+  pub transverse-within : (k : ℕ) → k < words (headerOf b) Transverse → Within 1000 (wordAt (sectionOf b Transverse) k)
+  transverse-within k h =
+      let e : 1 * k ≡ k = omega arith in
+      rw e at (between-within 1000 (wordAt (sectionOf b Transverse) (1 * k)) (first-fits (layout (headerOf b) Transverse) (sectionOf b Transverse) (ordinates .1) k (omega arith) (omega arith)))
+
+-- ---- 5: one sign
+-- a piece whose ordinates have one sign
+pub data Sided (p : Piece) : Type 0 where
+  above : pos 0 ≤ℤ p .left → pos 0 ≤ℤ p .right → Sided p
+  below : p .left ≤ℤ pos 0 → p .right ≤ℤ pos 0 → Sided p
+
+-- every piece of the line has one sign
+abbrev pub OneSigned : InfluenceLine → Type 0
+OneSigned line = (i : ℕ) → i < line .pieces → Sided (line .piece i)
+
+not-crossing : (x y : ℤ) → crosses x y ≡ false → Sided (record { left = x; right = y })
+not-crossing x y = go (ltZ (pos 0) x) (ltZ y (pos 0)) (ltZ x (pos 0)) (ltZ (pos 0) y) refl refl refl refl
+  where
+    go : (a b c d : Bool) → ltZ (pos 0) x ≡ a → ltZ y (pos 0) ≡ b → ltZ x (pos 0) ≡ c → ltZ (pos 0) y ≡ d → (a && b || c && d) ≡ false → Sided (record { left = x; right = y })
+    go true true c d ea eb ec ed e = absurd (true≢false e)
+    go true false c d ea eb ec ed e = above (lt→le (ltZ-true (pos 0) x ea)) (ltZ-false y (pos 0) eb)
+    go false b true true ea eb ec ed e = absurd (true≢false e)
+    go false b true false ea eb ec ed e = below (ltZ-false (pos 0) x ea) (ltZ-false (pos 0) y ed)
+    go false b false true ea eb ec ed e = above (ltZ-false x (pos 0) ec) (lt→le (ltZ-true (pos 0) y ed))
+    go false b false false ea eb ec ed e = below (ltZ-false (pos 0) x ea) (ltZ-false (pos 0) y ed)
+
+-- a job without fault 5 has pieces of one sign
+pub one-signed : (b : List ℕ) → fault5 b ≡ none → OneSigned (decode b .line)
+unfolding decode fault5
+one-signed b e i h = not-crossing _ _ (not-true _ (first-fits (signs (headerOf b .pieces)) (sectionOf b Line) (moved-none _ _ e) i h (omega arith)))

@@ -1,0 +1,93 @@
+-- Refusals 6, 7 and 8: a job without them has effects, rows and records within their limits, and chains that neither come back nor name an effect twice.
+use mathlib.Core.Path.{_≡_, sym, _∙_, ap}
+use mathlib.Core.Bool.{Bool, true, false, not, _||_, false≢true}
+use mathlib.Core.Option.{none}
+use mathlib.Core.List.{List}
+use Prim.Native.Nat.{ℕ, _+_, _*_, _<_}
+use native.Mathlib.Omega.{arith}
+use lib.IntN.{ℤ, pos}
+use borrow.Author.Tests.{not-true}
+use Rattle.exact.specs.Bounds.{Within}
+use Rattle.exact.specs.Choice.{if_then_else_, between}
+use Rattle.exact.specs.Parts.{up}
+use Rattle.exact.proofs.Bridge.{by-test}
+use Rattle.model.specs.Words.{wordAt, countAt}
+use Rattle.model.specs.Fields.{misfit}
+use Rattle.model.specs.Format.{headerOf, is, layout, sectionOf}
+use Rattle.model.specs.Refusals.{rowTests, chainReturns, chainNamesTwice, fault6, fault7, fault8}
+use Rattle.model.specs.declared.Header.{Header}
+use Rattle.model.specs.declared.Part.the-variants.{Effects, Rows, Records}
+use Rattle.model.proofs.Counts.{Count, between-count, between-within}
+use Rattle.model.proofs.Fits.{or-none, moved-none, fits, first-fits}
+
+-- ---- 6: effects, rows and records, item i of each section counting from 0
+pub record EffectFits (s : List ℕ) (i : ℕ) : Type 0 where
+  pub value : Within 1000000000 (wordAt s (2 * i))
+  pub mark : Count 1 2 (wordAt s (2 * i + 1))
+
+pub record RowFits (s : List ℕ) (records i : ℕ) : Type 0 where
+  pub limit : Count 1 2 (wordAt s (4 * i))
+  pub live : Count 0 2 (wordAt s (4 * i + 1))
+  pub factor : Count 0 3000 (wordAt s (4 * i + 2))
+  pub none : countAt s (4 * i + 1) ≡ 0 → countAt s (4 * i + 2) ≡ 0
+  pub first : Count 0 records (wordAt s (4 * i + 3))
+
+pub record RecordFits (s : List ℕ) (effects records i : ℕ) : Type 0 where
+  pub effect : Count 1 effects (wordAt s (3 * i))
+  pub factor : Count 0 3000 (wordAt s (3 * i + 1))
+  pub next : Count 0 records (wordAt s (3 * i + 2))
+
+factor-limit : (live z : ℤ) → live ≡ pos (up live) → between (pos 0) (pos (if is 0 live then 0 else 3000)) z ≡ true → Count 0 3000 z × (up live ≡ 0 → up z ≡ 0)
+factor-limit live z l =
+    by-test (is 0 live) (λ t. between (pos 0) (pos (if t then 0 else 3000)) z ≡ true → Count 0 3000 z × (up live ≡ 0 → up z ≡ 0))
+    (λ _ e. let c = between-count 0 0 z e in (record { is = c .is; least = omega arith; most = omega (arith, c .most) }, λ _. omega (arith, c .most)))
+    (λ t e. (between-count 0 3000 z e, λ u. absurd (false≢true (sym t ∙ ap (is 0) (l ∙ ap pos u)))))
+
+module _ (b : List ℕ) (clear : fault6 b ≡ none) (i : ℕ) where
+  abbrev head : Header
+  head = headerOf b
+
+  -- none of the three parts has a place at fault
+  searches : (misfit (layout head Effects) (sectionOf b Effects) ≡ none) × (misfit (layout head Rows) (sectionOf b Rows) ≡ none) × (misfit (layout head Records) (sectionOf b Records) ≡ none)
+  unfolding fault6
+  searches = let r = or-none _ _ clear in let t = or-none _ _ (r .1) in (moved-none _ _ (r .0), moved-none _ _ (t .0), moved-none _ _ (or-none _ none (t .1) .0))
+
+  -- effects are within their limits
+  pub effect-fits : i < head .effects → EffectFits (sectionOf b Effects) i
+  effect-fits h =
+      let field = fits (layout head Effects) (sectionOf b Effects) (searches .0) i in
+      record { value = between-within _ _ (first-fits (layout head Effects) _ (searches .0) i h (omega arith)); mark = between-count _ _ _ (field 1 h (omega arith)) }
+
+  -- and rows
+  pub row-fits : i < head .rows → RowFits (sectionOf b Rows) (head .records) i
+  row-fits h =
+      let field = fits (layout head Rows) (sectionOf b Rows) (searches .1) i in
+      let live : Count 0 2 (wordAt (sectionOf b Rows) (4 * i + 1)) = between-count 0 2 _ (field 1 h (omega arith)) in
+      let factor = factor-limit (wordAt (sectionOf b Rows) (4 * i + 1)) (wordAt (sectionOf b Rows) (4 * i + 2)) (live .is) (field 2 h (omega arith)) in
+      record {
+        limit = between-count _ _ _ (first-fits (layout head Rows) _ (searches .1) i h (omega arith));
+        live = live;
+        factor = factor .0;
+        none = factor .1;
+        first = between-count _ _ _ (field 3 h (omega arith));
+      }
+
+  -- and records
+  pub record-fits : i < head .records → RecordFits (sectionOf b Records) (head .effects) (head .records) i
+  record-fits h =
+      let field = fits (layout head Records) (sectionOf b Records) (searches .2) i in
+      record {
+        effect = between-count _ _ _ (first-fits (layout head Records) _ (searches .2) i h (omega arith));
+        factor = between-count _ _ _ (field 1 h (omega arith));
+        next = between-count _ _ _ (field 2 h (omega arith));
+      }
+
+-- ---- 7 and 8: no row's chain comes back to a record or names an effect twice
+module _ (b : List ℕ) (e : fault7 b ≡ none) (i : ℕ) (h : i < headerOf b .rows) where
+  pub no-return : chainReturns b (i + 1) ≡ false
+  unfolding fault7
+  no-return = not-true _ (first-fits (rowTests (headerOf b .rows) (λ i. not (chainReturns b (i + 1)))) (sectionOf b Rows) (moved-none _ _ e) i h (omega arith))
+
+  pub no-repeat : fault8 b ≡ none → chainNamesTwice b (i + 1) ≡ false
+  unfolding fault8
+  no-repeat f = not-true _ (rw no-return at (first-fits (rowTests (headerOf b .rows) (λ i. chainReturns b (i + 1) || not (chainNamesTwice b (i + 1)))) (sectionOf b Rows) (moved-none _ _ f) i h (omega arith)))
