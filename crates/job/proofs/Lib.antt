@@ -1,5 +1,5 @@
-pub mod Starts
-pub mod Tests
+pub mod Sizes
+pub mod Words
 pub mod Scans
-pub mod Linked
 pub mod Rulings
+pub mod Linked

@@ -1,86 +1,115 @@
--- How the verdict goes from number to number.
+-- How the verdict goes from test to test.
 use mathlib.Core.Path.{_≡_, refl, sym, _∙_, ap, subst}
 use mathlib.Core.Bool.{Bool}
-use mathlib.Core.Option.{Option, none, some, Option·some-ne-none, Option·none-ne-some}
-use mathlib.Core.List.{List}
-use Prim.Native.Nat.{ℕ, _≤_, _<_}
+use mathlib.Core.Option.{Option, none, some, Option·none-ne-some}
+use mathlib.Core.List.{List, [], _∷_}
+use Prim.Native.Nat.{ℕ, zero, suc, _+_, _-_, _*_, _≤_, _<_}
 use native.Mathlib.Decide.{decLe}
 use native.Mathlib.Omega.{arith}
-use lib.ListN.{length}
-use borrow.Author.Tests.{lt-leb, eq-eqb, ne-eqb}
+use lib.ListN.{length, getD}
+use borrow.Author.Tests.{ne-eqb}
 use Rattle.exact.specs.Choice.{if_then_else_}
-use Rattle.model.specs.Refusals.{Refusal, refuse, fault1, fault2, fault3, verdict}
-use Rattle.model.proofs.Accepted.{clear, header-fits, size-fits}
-use Rattle.job.specs.declared.header.Header.{Header}
-use Rattle.job.specs.declared.limits.Fault.{Fault}
+use Rattle.model.specs.Format.{headerOf, wordsDue}
+use Rattle.model.specs.Refusals.{Refusal, Test, _finds_, refuse, firstRefusal, jobTests, jobVerdict, fault1, fault2, fault3, fault6, fault7}
+use Rattle.model.specs.declared.Header.{Header}
+use Rattle.model.proofs.Verdict.{has-header, size-fits}
 use Rattle.job.specs.declared.refusals.Ruling.{Ruling}
-use Rattle.job.specs.Header.{headerOf, HeadFits, Sized}
-use Rattle.job.specs.Limits.{placeOf}
-use Rattle.job.specs.Rulings.{rulingOf, Rules}
+use Rattle.job.specs.Sized.{Counted, Sized}
+use Rattle.job.specs.Rulings.{Rules, testOf, Passed}
+use Rattle.job.proofs.Sizes.{counted}
 
--- number 0 is no refusal, and another is one
-zero-none : (r : Ruling) → r .number ≡ 0 → rulingOf r ≡ none
-zero-none r e = ap (λ (t : Bool). if t then none else some (record { number = r .number; place = r .place })) (eq-eqb (r .number) 0 e)
+-- the first test that finds a place refuses
+first-found : (tests : List Test) (k : ℕ) {p : ℕ} → ((j : ℕ) → j < k → getD tests j (0 finds none) .found ≡ none) → getD tests k (0 finds none) .found ≡ some p →
+    firstRefusal tests ≡ some (record { number = getD tests k (0 finds none) .number; place = p })
+first-found [] k {p} c e = absurd (Option·none-ne-some p e)
+first-found (t ∷ rest) zero c e = ap (λ o. refuse (t .number) o (firstRefusal rest)) e
+first-found (t ∷ rest) (suc k) c e = ap (λ o. refuse (t .number) o (firstRefusal rest)) (c 0 (omega arith)) ∙ first-found rest k (λ j h. c (suc j) (omega arith)) e
 
-other-some : (r : Ruling) → (r .number ≡ 0 → ⊥) → rulingOf r ≡ some (record { number = r .number; place = r .place })
-other-some r d = ap (λ (t : Bool). if t then none else some (record { number = r .number; place = r .place })) (ne-eqb (r .number) 0 d)
+-- and where none does, none refuses
+none-found : (tests : List Test) → ((j : ℕ) → j < length tests → getD tests j (0 finds none) .found ≡ none) → firstRefusal tests ≡ none
+none-found [] c = refl
+none-found (t ∷ rest) c = ap (λ o. refuse (t .number) o (firstRefusal rest)) (c 0 (omega arith)) ∙ none-found rest (λ j h. c (suc j) (omega arith))
 
--- a ruling of number 0 accepts
-pub accepts : (r : Ruling) {v : Option Refusal} → Rules r v → r .number ≡ 0 → v ≡ none
-accepts r v e = sym (v .says) ∙ zero-none r e
+-- tests numbered from n on
+abbrev Rising : ℕ → List Test → Type 0
+Rising n [] = Unit {0}
+Rising n (t ∷ rest) = (t .number ≡ n) × Rising (suc n) rest
 
--- and any other is the refusal
-pub refuses : (r : Ruling) {v : Option Refusal} → Rules r v → (r .number ≡ 0 → ⊥) → v ≡ some (record { number = r .number; place = r .place })
-refuses r v d = sym (v .says) ∙ other-some r d
+rising-number : (n : ℕ) (tests : List Test) → Rising n tests → (k : ℕ) → k < length tests → getD tests k (0 finds none) .number ≡ n + k
+rising-number n [] r k h = absurd (omega arith)
+rising-number n (t ∷ rest) r zero h = r .0 ∙ omega arith
+rising-number n (t ∷ rest) r (suc k) h = rising-number (suc n) rest (r .1) k (omega arith) ∙ omega arith
 
--- the fault that the code found is the model's
-pub ruled : (r : Ruling) (n : ℕ) (f : Fault) {o : Option ℕ} → placeOf f ≡ o → Rules r (refuse n (placeOf f) none) → Rules r (refuse n o none)
-ruled r n f e v = subst (λ (o : Option ℕ). Rules r (refuse n o none)) e v
-
--- a number that refuses settles the verdict
-pub settles : (r : Ruling) (n : ℕ) (f : Option ℕ) (higher : Option Refusal) → Rules r (refuse n f none) → (r .number ≡ 0 → ⊥) → Rules r (refuse n f higher)
-settles r n (some p) higher v d = v
-settles r n none higher v d = absurd (Option·none-ne-some _ (refuses r v d))
-
--- one that does not has found no fault
-pub finds-none : (r : Ruling) (n : ℕ) (f : Option ℕ) → Rules r (refuse n f none) → r .number ≡ 0 → f ≡ none
-finds-none r n none v e = refl
-finds-none r n (some p) v e = absurd (Option·some-ne-none _ (accepts r v e))
-
--- and leaves the verdict to the higher numbers
-pub leaves : (r : Ruling) (n : ℕ) {f : Option ℕ} (higher : Option Refusal) → f ≡ none → Rules r higher → Rules r (refuse n f higher)
-leaves r n higher e v = subst (λ (f : Option ℕ). Rules r (refuse n f higher)) (sym e) v
-
--- a job without fault 1 has a header
-pub has-header : (b : List ℕ) → fault1 b ≡ none → 40 ≤ length b
-unfolding fault1
-has-header b e = elim (decLe 40 (length b)) [
-  | yes h ↦ h
-  | no h ↦ absurd (Option·some-ne-none 0 (short (omega arith) ∙ e))
-]
-  where
-    short : length b < 40 → some 0 ≡ fault1 b
-    short h = rw (lt-leb 40 (length b) h) refl
-
--- a job without fault 2 has counts within their limits
-pub head-fits : (b : List ℕ) → fault2 b ≡ none → HeadFits (headerOf b)
-head-fits b e =
-    let f = header-fits b e in
-    record {
-      pieces = f .pieces .most;
-      closest = f .spacing .least;
-      widest = f .spacing .most;
-      narrow = f .wide .least;
-      wide = f .wide .most;
-      effects = f .effects .most;
-      rows = f .rows .most;
-      records = f .records .most;
-    }
+-- each of the job's tests has its number
+numbered : (b : List ℕ) (n : ℕ) → 1 ≤ n → n ≤ 8 → testOf b n .number ≡ n
+unfolding jobTests
+numbered b n l h = rising-number 1 (jobTests b) (refl, (refl, (refl, (refl, (refl, (refl, (refl, (refl, tt)))))))) (n - 1) (omega arith) ∙ omega arith
 
 -- a job without faults 1 to 3 has the bytes that its header calls for
 pub is-sized : (b : List ℕ) {head : Header} → head ≡ headerOf b → fault1 b ≡ none → fault2 b ≡ none → fault3 b ≡ none → Sized b head
-is-sized b o e f g = record { own = o; fits = subst HeadFits (sym o) (head-fits b f); due = size-fits b e g .due }
+is-sized b o e f g = record { own = o; within = f; due = size-fits b e g ∙ ap (λ (h : Header). 4 * wordsDue h) (sym o) }
 
--- an accepted job's header is within its limits, and its sections are in it
-pub accepted-sized : (b : List ℕ) (patch : ℕ) {head : Header} → verdict b patch ≡ none → head ≡ headerOf b → Sized b head
-accepted-sized b patch e o = let c = clear b patch e in is-sized b o (c .c1) (c .c2) (c .c3)
+-- a job without fault 1 begins the tests from 2 on
+pub begins : {b : List ℕ} {head : Header} → head ≡ headerOf b → fault1 b ≡ none → Passed b head 2
+unfolding jobTests
+begins {b} o e = record { own = o; first = omega arith; clear = λ n l h. let q : n ≡ 1 = omega arith in rw q e }
+
+-- a ruling that refuses
+pub ruled : {v : Option Refusal} (n p : ℕ) → 1 ≤ n → v ≡ some (record { number = n; place = p }) → Rules (record { number = n; place = p }) v
+ruled n p h e = record { says = ap (λ (t : Bool). if t then none else some (record { number = n; place = p })) (ne-eqb n 0 (λ z. omega arith)) ∙ sym e; blank = λ z. absurd (omega arith) }
+
+-- the frame's refusal
+pub frame-refuses : (b : List ℕ) (p : ℕ) → fault1 b ≡ some p → Rules (record { number = 1; place = p }) (jobVerdict b)
+unfolding jobVerdict jobTests
+frame-refuses b p e = ruled 1 p (omega arith) (first-found (jobTests b) 0 (λ j h. absurd (omega arith)) e)
+
+-- what the tests before a number give
+module _ {b : List ℕ} {head : Header} {number : ℕ} (passed : Passed b head number) where
+  clear1 : fault1 b ≡ none
+  unfolding jobTests
+  clear1 = passed .clear 1 (omega arith) (omega (arith, passed .first))
+
+  clear2 : 2 < number → fault2 b ≡ none
+  unfolding jobTests
+  clear2 h = passed .clear 2 (omega arith) h
+
+  clear3 : 3 < number → fault3 b ≡ none
+  unfolding jobTests
+  clear3 h = passed .clear 3 (omega arith) h
+
+  pub clear6 : 6 < number → fault6 b ≡ none
+  unfolding jobTests
+  clear6 h = passed .clear 6 (omega arith) h
+
+  pub clear7 : 7 < number → fault7 b ≡ none
+  unfolding jobTests
+  clear7 h = passed .clear 7 (omega arith) h
+
+  pub header-there : 40 ≤ length b
+  header-there = has-header b clear1
+
+  pub counts-there : 2 < number → Counted head
+  counts-there h = subst Counted (sym (passed .own)) (counted b (clear2 h))
+
+  pub sized-there : 3 < number → Sized b head
+  sized-there h = is-sized b (passed .own) clear1 (clear2 (omega arith)) (clear3 h)
+
+  -- where it finds a place it refuses
+  pub refuses : number ≤ 8 → (p : ℕ) → testOf b number .found ≡ some p → jobVerdict b ≡ some (record { number = number; place = p })
+  unfolding jobVerdict
+  refuses h p e =
+      first-found (jobTests b) (number - 1) (λ j l. let f : suc j - 1 ≡ j = omega arith in rw f at (passed .clear (suc j) (omega arith) (omega arith))) e
+      ∙ ap (λ n. some (record { number = n; place = p })) (numbered b number (omega (arith, passed .first)) h)
+
+  -- where it finds none the next is asked
+  pub goes-on : testOf b number .found ≡ none → Passed b head (number + 1)
+  goes-on e = record {
+    own = passed .own;
+    first = omega (arith, passed .first);
+    clear = λ n l k. elim (decLe number n) [ yes m ↦ let q : n ≡ number = omega arith in rw q e | no m ↦ passed .clear n l (omega arith) ];
+  }
+
+  -- after the last the job is accepted
+  pub accepts : 9 ≤ number → jobVerdict b ≡ none
+  unfolding jobVerdict jobTests
+  accepts h = none-found (jobTests b) (λ j l. let f : suc j - 1 ≡ j = omega arith in rw f at (passed .clear (suc j) (omega arith) (omega arith)))

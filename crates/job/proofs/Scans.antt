@@ -1,36 +1,48 @@
--- A scan of n places from a start on, for the first that passes a test: how it begins, goes on and ends.
-use mathlib.Core.Path.{_≡_, sym}
-use mathlib.Core.Bool.{Bool, true, false}
-use mathlib.Core.Option.{none, some}
-use Prim.Native.Nat.{ℕ, _+_, _≤_, _<_}
+-- A search of the items of a section for the first that has a place at fault: how it goes on and ends.
+use mathlib.Core.Path.{_≡_, refl, _∙_, ap}
+use mathlib.Core.Option.{Option, none, some}
+use Prim.Native.Nat.{ℕ, zero, suc, _+_, _≤_, _<_}
 use native.Mathlib.Decide.{decLe}
 use native.Mathlib.Omega.{arith}
-use Rattle.exact.specs.Ranges.{firstFrom}
-use Rattle.exact.proofs.Ranges.{first-none-intro, first-some-intro}
+use Rattle.exact.specs.Choice.{orElse}
+use Rattle.model.specs.Fields.{firstAnswer}
 
--- it stands at p, and no place before p passes
-pub record Scanned (test : ℕ → Bool) (start n p : ℕ) : Type 0 where
-  pub from : start ≤ p
-  pub within : p ≤ start + n
-  pub passed : (i : ℕ) → start ≤ i → i < p → test i ≡ false
+pub answer-none : (i n : ℕ) (f : ℕ → Option ℕ) → ((k : ℕ) → i ≤ k → k < i + n → f k ≡ none) → firstAnswer i n f ≡ none
+answer-none i zero f h = refl
+answer-none i (suc n) f h =
+    ap (λ (o : Option ℕ). orElse o (firstAnswer (suc i) n f)) (h i (omega arith) (omega arith))
+    ∙ answer-none (suc i) n f (λ k l m. h k (omega arith) (omega arith))
 
-pub scan-begins : (test : ℕ → Bool) (start n : ℕ) {p : ℕ} → p ≡ start → Scanned test start n p
-scan-begins test start n e = record { from = omega arith; within = omega arith; passed = λ i l m. absurd (omega arith) }
+pub answer-some : (i n : ℕ) (f : ℕ → Option ℕ) (k r : ℕ) → i ≤ k → k < i + n → ((j : ℕ) → i ≤ j → j < k → f j ≡ none) → f k ≡ some r → firstAnswer i n f ≡ some r
+answer-some i zero f k r l m h e = absurd (omega arith)
+answer-some i (suc n) f k r l m h e = elim (decLe k i) [
+  | yes q ↦ let g : i ≡ k = omega arith in ap (λ (o : Option ℕ). orElse o (firstAnswer (suc i) n f)) (ap f g ∙ e)
+  | no q ↦
+      ap (λ (o : Option ℕ). orElse o (firstAnswer (suc i) n f)) (h i (omega arith) (omega arith))
+      ∙ answer-some (suc i) n f k r (omega arith) (omega arith) (λ j a b. h j (omega arith) b) e
+]
 
-module _ {test : ℕ → Bool} {start n p : ℕ} (s : Scanned test start n p) where
-  -- p does not pass
-  pub scan-goes-on : p < start + n → test p ≡ false → Scanned test start n (p + 1)
-  scan-goes-on h e =
+-- the search of n items stands at i, and no item before i has a place at fault
+pub record Searched (f : ℕ → Option ℕ) (n i : ℕ) : Type 0 where
+  pub within : i ≤ n
+  pub passed : (k : ℕ) → k < i → f k ≡ none
+
+pub search-begins : (f : ℕ → Option ℕ) (n : ℕ) → Searched f n 0
+search-begins f n = record { within = omega arith; passed = λ k l. absurd (omega arith) }
+
+module _ {f : ℕ → Option ℕ} {n i : ℕ} (s : Searched f n i) where
+  -- item i is clear
+  pub search-goes-on : i < n → f i ≡ none → Searched f n (i + 1)
+  search-goes-on h e =
       record {
-        from = omega (arith, s .from);
         within = omega arith;
-        passed = λ i l m. elim (decLe p i) [ yes q ↦ let k : i ≡ p = omega arith in rw k e | no q ↦ s .passed i l (omega arith) ];
+        passed = λ k l. elim (decLe i k) [ yes q ↦ let g : k ≡ i = omega arith in rw g e | no q ↦ s .passed k (omega arith) ];
       }
 
-  -- p passes
-  pub scan-found : p < start + n → test p ≡ true → some p ≡ firstFrom start n test
-  scan-found h e = sym (first-some-intro start n test p (record { from = s .from; below = h; holds = e; lower = s .passed }))
+  -- item i has a place at fault
+  pub search-found : i < n → {r : ℕ} → f i ≡ some r → firstAnswer 0 n f ≡ some r
+  search-found h {r} e = answer-some 0 n f i r (omega arith) (omega arith) (λ j _ l. s .passed j l) e
 
-  -- no place is left
-  pub scan-over : start + n ≤ p → none ≡ firstFrom start n test
-  scan-over h = sym (first-none-intro start n test (λ i l m. s .passed i l (omega arith)))
+  -- no item is left
+  pub search-over : n ≤ i → firstAnswer 0 n f ≡ none
+  search-over h = answer-none 0 n f (λ k _ l. s .passed k (omega arith))

@@ -1,14 +1,15 @@
 -- What may be wrong with a row's chain, and the first row whose chain has it.
 use mathlib.Core.Path.{_≡_}
 use Prim.Native.Nat.{ℕ, _+_}
-use mathlib.Core.Bool.{Bool, not, _&&_}
+use mathlib.Core.Bool.{Bool, not, _||_}
 use mathlib.Core.Option.{Option}
 use mathlib.Core.List.{List}
 use lib.Dec.{eqb}
-use Rattle.exact.specs.Ranges.{firstFrom}
-use Rattle.model.specs.Sections.{rowCount, rowsStart}
+use Rattle.model.specs.Fields.{misfit}
+use Rattle.model.specs.Format.{headerOf, sectionOf}
 use Rattle.model.specs.Chains.{walk, namesTwice}
-use Rattle.model.specs.Refusals.{itemPlace, chainReturns, chainNamesTwice}
+use Rattle.model.specs.Refusals.{rowTests, chainReturns, chainNamesTwice}
+use Rattle.model.specs.declared.Part.the-variants.{Rows}
 use Rattle.job.specs.declared.defects.Defect.{Defect}
 use Rattle.job.specs.declared.defects.Defect.the-variants.{Return, Repeat}
 
@@ -21,11 +22,11 @@ abbrev pub isDefective : Defect → List ℕ → (c n : ℕ) → Bool
 isDefective Return s c n = not (eqb (walk s c n) 0)
 isDefective Repeat s c n = namesTwice s n c
 
--- row r's chain: it comes back to a record; without a return it names an effect twice
-abbrev pub chainFails : Defect → List ℕ → ℕ → Bool
-chainFails Return b r = chainReturns b r
-chainFails Repeat b r = not (chainReturns b r) && chainNamesTwice b r
+-- row i's chain, i from 0, is without it; with a return an effect named twice is not sought
+abbrev pub chainPasses : Defect → List ℕ → ℕ → Bool
+chainPasses Return b i = not (chainReturns b (i + 1))
+chainPasses Repeat b i = chainReturns b (i + 1) || not (chainNamesTwice b (i + 1))
 
--- the first word of the first row whose chain fails
+-- the first word of the first row whose chain has it, from the first row's on
 abbrev pub firstDefective : Defect → List ℕ → Option ℕ
-firstDefective defect b = itemPlace (rowsStart b) 4 (firstFrom 0 (rowCount b) (λ i. chainFails defect b (i + 1)))
+firstDefective defect b = misfit (rowTests (headerOf b .rows) (chainPasses defect b)) (sectionOf b Rows)

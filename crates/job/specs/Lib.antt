@@ -1,4 +1,3 @@
-pub mod Header
-pub mod Limits
+pub mod Sized
 pub mod Defects
 pub mod Rulings

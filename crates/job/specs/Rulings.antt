@@ -1,11 +1,14 @@
 -- A ruling as the model's refusal.
 use mathlib.Core.Path.{_≡_}
-use Prim.Native.Nat.{ℕ}
+use Prim.Native.Nat.{ℕ, _-_, _≤_, _<_}
 use mathlib.Core.Option.{Option, none, some}
 use mathlib.Core.List.{List}
 use lib.Dec.{eqb}
+use lib.ListN.{getD}
 use Rattle.exact.specs.Choice.{if_then_else_}
-use Rattle.model.specs.Refusals.{Refusal, fault4, fault5, fault6, fault7, fault8, fault9, refuse}
+use Rattle.model.specs.Format.{headerOf}
+use Rattle.model.specs.Refusals.{Refusal, Test, _finds_, jobTests}
+use Rattle.model.specs.declared.Header.{Header}
 use Rattle.job.specs.declared.refusals.Ruling.{Ruling}
 
 -- number 0 is no refusal
@@ -17,10 +20,12 @@ pub record Rules (r : Ruling) (verdict : Option Refusal) : Type 0 where
   pub says : rulingOf r ≡ verdict
   pub blank : r .number ≡ 0 → r .place ≡ 0
 
--- the verdict of numbers 6 to 9
-abbrev pub factorsVerdict : List ℕ → (patch : ℕ) → Option Refusal
-factorsVerdict b patch = refuse 6 (fault6 b) (refuse 7 (fault7 b) (refuse 8 (fault8 b) (refuse 9 (fault9 b patch) none)))
+-- a job's test of a number
+abbrev pub testOf : List ℕ → ℕ → Test
+testOf b number = getD (jobTests b) (number - 1) (0 finds none)
 
--- and of 4 to 9
-abbrev pub linesVerdict : List ℕ → (patch : ℕ) → Option Refusal
-linesVerdict b patch = refuse 4 (fault4 b) (refuse 5 (fault5 b) (factorsVerdict b patch))
+-- the header is the job's own, and none of the tests before a number from 2 on finds a place
+pub record Passed (b : List ℕ) (head : Header) (number : ℕ) : Type 0 where
+  pub own : head ≡ headerOf b
+  pub first : 2 ≤ number
+  pub clear : (n : ℕ) → 1 ≤ n → n < number → testOf b n .found ≡ none

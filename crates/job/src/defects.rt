@@ -6,13 +6,12 @@ ghost use lib.ListN.{length};
 ghost use Rattle.model.specs.Chains.{walk};
 ghost use Rattle.model.specs.Refusals.{fault6, fault7};
 ghost use Rattle.chains.specs.Linked.{Linked, EffectsTo};
-ghost use Rattle.job.specs.Header.{Sized};
-ghost use Rattle.job.specs.Limits.{placeOf};
+ghost use Rattle.job.specs.Sized.{placeOf, Sized};
 ghost use Rattle.job.specs.Defects.{Repeats, isDefective, firstDefective};
-use crate::header;
-use crate::header::Header;
 use crate::limits::Fault;
 use crate::sections;
+use model::Header;
+use model::Part;
 
 // What may be wrong with a chain.
 pub enum Defect {
@@ -31,18 +30,17 @@ fn is_defective(records: &[u8], first: usize, count: usize, defect: Defect) -> b
     }
 }
 
-// The first word of the first row whose chain has it.
+// The first word of the first row whose chain has it, from the first row's on.
 pub(crate) fn first_row(s: &[u8], head: Header, defect: Defect) -> Fault
     requires { ⌜ Sized (now s) head × (fault6 (now s) ≡ none) × (Repeats defect → fault7 (now s) ≡ none) ⌝ }
     ensures { λ r. ⌜ placeOf r ≡ firstDefective defect (now (s .entry)) ⌝ }
 {
-    let start = header::rows_start(head);
-    let rows = sections::rows(s, head);
-    let records = sections::records(s, head);
+    let rows = sections::section(s, head, Part::Rows);
+    let records = sections::section(s, head, Part::Records);
     for i in 0..head.rows {
         let first = words::count(rows, 4 * i + 3);
         if is_defective(records, first, head.records, defect) {
-            return Fault::At(start + 4 * i);
+            return Fault::At(4 * i);
         }
     }
     Fault::Clear

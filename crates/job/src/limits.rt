@@ -1,25 +1,20 @@
-// The limits of a job's words, and the first word of a part that is outside them.
+// The lowest place at fault in a part, item by item, by the limits of its row of the table. Places count from the part's first word.
 ghost use mathlib.Core.Path.{_≡_};
-ghost use Prim.Native.Nat.{_+_, _-_, _*_, _≤_};
-ghost use mathlib.Core.Bool.{_&&_, true};
-ghost use lib.IntN.{pos, _*ℤ_};
-ghost use lib.Signed.{leZ};
-ghost use lib.ListN.{length, getD};
+ghost use mathlib.Core.Option.{some};
+ghost use mathlib.Core.List.{[], _∷_};
+ghost use Prim.Native.Nat.{_+_, _*_, _≤_, _<_};
+ghost use lib.IntN.{pos, negℤ};
+ghost use lib.ListN.{length};
 ghost use Rattle.exact.specs.Bounds.{Within};
 ghost use Rattle.exact.specs.Choice.{if_then_else_, between};
-ghost use Rattle.model.specs.Refusals.{is, lengthFits, dynamicFits, headerTests, effectFits, rowFits, recordFits};
-ghost use Rattle.model.specs.Sections.{effectsStart, rowsStart, recordsStart};
-ghost use Rattle.job.specs.Limits.{placeOf, wordFits, firstMisfit, PartHeld, WordHeld};
-
-// A part of the job whose words have limits.
-pub enum Part {
-    Head,
-    Line,
-    Transverse,
-    Effects,
-    Rows,
-    Records,
-}
+ghost use Rattle.model.specs.Words.{wordAt};
+ghost use Rattle.model.specs.Fields.{range, oneOf, given, both, misfitFrom, itemFrom, misfit};
+ghost use Rattle.model.specs.Format.{is, reach, dynamicFits, layout, words};
+ghost use Rattle.model.specs.declared.Part.the-variants.{Head, Line, Transverse, Effects, Rows, Records};
+ghost use Rattle.job.specs.Sized.{placeOf, Counted};
+use crate::sections;
+use model::Header;
+use model::Part;
 
 // A place at fault, or none.
 pub enum Fault {
@@ -27,10 +22,46 @@ pub enum Fault {
     Clear,
 }
 
-// h, in dm.
-fn length_fits(h: i64) -> bool
-    ensures { λ r. ⌜ r ≡ lengthFits h ⌝ }
+// Word p is from lo to hi, counts both.
+fn in_range(s: &[u8], p: usize, lo: usize, hi: usize) -> bool
+    requires { ⌜ 4 * p + 4 ≤ length (now s) ⌝ }
+    ensures { λ r. ⌜ r ≡ between (pos lo) (pos hi) (wordAt (now (s .entry)) p) ⌝ }
 {
+    let x = words::word(s, p);
+    if x < 0 {
+        return false;
+    }
+    let n = x as usize;
+    if lo <= n {
+        return n <= hi;
+    }
+    false
+}
+
+// Word p is from -m to m.
+fn within(s: &[u8], p: usize, m: i64) -> bool
+    requires { ⌜ (4 * p + 4 ≤ length (now s)) × Within 1000000000 m ⌝ }
+    ensures { λ r. ⌜ r ≡ between (negℤ m) m (wordAt (now (s .entry)) p) ⌝ }
+{
+    words::is_between(-m, m, words::word(s, p))
+}
+
+// The field of an item at fault: field j unless its word is admitted, else a later one.
+fn field(j: usize, admitted: bool, later: Fault) -> Fault
+    ensures { λ r. ⌜ placeOf r ≡ (if admitted then placeOf later else some j) ⌝ }
+{
+    if admitted {
+        return later;
+    }
+    Fault::At(j)
+}
+
+// h, in dm.
+fn length_fits(s: &[u8]) -> bool
+    requires { ⌜ 40 ≤ length (now s) ⌝ }
+    ensures { λ r. ⌜ r ≡ oneOf (1 ∷ 2 ∷ 5 ∷ 10 ∷ 25 ∷ 50 ∷ []) (itemFrom (now (s .entry)) 0 0) (wordAt (now (s .entry)) 1) ⌝ }
+{
+    let h = words::word(s, 1);
     if h == 1 {
         return true;
     }
@@ -53,125 +84,133 @@ fn length_fits(h: i64) -> bool
 }
 
 // N, and N times h at most 1000.
-fn pieces_fit(n: i64, h: i64) -> bool
-    requires { ⌜ Within 2147483648 n × Within 2147483648 h ⌝ }
-    ensures { λ r. ⌜ r ≡ (between (pos 1) (pos 1000) n && leZ (n *ℤ h) (pos 1000)) ⌝ }
+fn pieces_fit(s: &[u8]) -> bool
+    requires { ⌜ 40 ≤ length (now s) ⌝ }
+    ensures { λ r. ⌜ r ≡ both (range 1 1000) (given 1 reach) (itemFrom (now (s .entry)) 0 0) (wordAt (now (s .entry)) 2) ⌝ }
 {
-    if words::is_between(1, 1000, n) {
-        return n * h <= 1000;
+    if in_range(s, 2, 1, 1000) {
+        return words::word(s, 2) * words::word(s, 1) <= 1000;
     }
     false
 }
 
 // The dynamic value for its kind.
-fn dynamic_fits(kind: i64, value: i64) -> bool
-    ensures { λ r. ⌜ r ≡ dynamicFits kind value ⌝ }
+fn dynamic_fits(s: &[u8]) -> bool
+    requires { ⌜ 40 ≤ length (now s) ⌝ }
+    ensures { λ r. ⌜ r ≡ dynamicFits (wordAt (now (s .entry)) 5) (wordAt (now (s .entry)) 6) ⌝ }
 {
+    let kind = words::word(s, 5);
     if kind == 1 {
-        return words::is_between(1000, 1300, value);
+        return in_range(s, 6, 1000, 1300);
     }
     if kind == 2 {
-        return words::is_between(0, 0, value);
+        return in_range(s, 6, 0, 0);
     }
-    words::is_between(0, 5000, value)
+    in_range(s, 6, 0, 5000)
 }
 
-// Word p of 1 to 9 is within its limits.
-fn header_fits(s: &[u8], p: usize) -> bool
-    requires { ⌜ (40 ≤ length (now s)) × (1 ≤ p) × (p ≤ 9) ⌝ }
-    ensures { λ r. ⌜ r ≡ getD (headerTests (now (s .entry))) (p - 1) true ⌝ }
+// The header's field at fault; its edition is tested before.
+pub(crate) fn header_misfit(s: &[u8], head: Header) -> Fault
+    requires { ⌜ 40 ≤ length (now s) ⌝ }
+    ensures { λ r. ⌜ placeOf r ≡ misfitFrom 0 (layout head Head .fields) (itemFrom (now (s .entry)) 0 0) ⌝ }
 {
-    let w = words::word(s, p);
-    match p {
-        1 => length_fits(w),
-        2 => pieces_fit(w, words::word(s, 1)),
-        3 => words::is_between(10, 50, w),
-        4 => words::is_between(300, 2079, w),
-        5 => words::is_between(1, 3, w),
-        6 => dynamic_fits(words::word(s, 5), w),
-        7 => words::is_between(0, 16, w),
-        8 => words::is_between(1, 32, w),
-        _ => words::is_between(0, 512, w),
-    }
+    let f9 = field(9, in_range(s, 9, 0, 512), Fault::Clear);
+    let f8 = field(8, in_range(s, 8, 1, 32), f9);
+    let f7 = field(7, in_range(s, 7, 0, 16), f8);
+    let f6 = field(6, dynamic_fits(s), f7);
+    let f5 = field(5, in_range(s, 5, 1, 3), f6);
+    let f4 = field(4, in_range(s, 4, 300, 2079), f5);
+    let f3 = field(3, in_range(s, 3, 10, 50), f4);
+    let f2 = field(2, pieces_fit(s), f3);
+    field(1, length_fits(s), f2)
 }
 
-fn effect_fits(s: &[u8], start: usize, p: usize) -> bool
-    requires { ⌜ (start ≡ effectsStart (now s)) × (start ≤ p) × (4 * p + 4 ≤ length (now s)) ⌝ }
-    ensures { λ r. ⌜ r ≡ effectFits (now (s .entry)) p ⌝ }
+// A piece: left and right ordinate.
+fn piece_misfit(s: &[u8], head: Header, i: usize) -> Fault
+    requires { ⌜ 8 * i + 8 ≤ length (now s) ⌝ }
+    ensures { λ r. ⌜ placeOf r ≡ misfitFrom 0 (layout head Line .fields) (itemFrom (now (s .entry)) (2 * i) i) ⌝ }
 {
-    let w = words::word(s, p);
-    if (p - start) % 2 == 0 {
-        return words::is_between(-1000000000, 1000000000, w);
-    }
-    words::is_between(1, 2, w)
+    let p = 2 * i;
+    let right = field(1, within(s, p + 1, 5000), Fault::Clear);
+    field(0, within(s, p, 5000), right)
 }
 
-// The greatest live factor of a live kind.
-fn live_limit(kind: i64) -> i64
-    ensures { λ r. ⌜ r ≡ (if is 0 kind then pos 0 else pos 3000) ⌝ }
+// A transverse ordinate.
+fn transverse_misfit(s: &[u8], head: Header, i: usize) -> Fault
+    requires { ⌜ 4 * i + 4 ≤ length (now s) ⌝ }
+    ensures { λ r. ⌜ placeOf r ≡ misfitFrom 0 (layout head Transverse .fields) (itemFrom (now (s .entry)) (1 * i) i) ⌝ }
 {
-    if kind == 0 {
+    field(0, within(s, i, 1000), Fault::Clear)
+}
+
+// An effect: value, mark.
+fn effect_misfit(s: &[u8], head: Header, i: usize) -> Fault
+    requires { ⌜ 8 * i + 8 ≤ length (now s) ⌝ }
+    ensures { λ r. ⌜ placeOf r ≡ misfitFrom 0 (layout head Effects .fields) (itemFrom (now (s .entry)) (2 * i) i) ⌝ }
+{
+    let p = 2 * i;
+    let mark = field(1, in_range(s, p + 1, 1, 2), Fault::Clear);
+    field(0, within(s, p, 1000000000), mark)
+}
+
+// The greatest live factor of the live kind at word p.
+fn live_limit(s: &[u8], p: usize) -> usize
+    requires { ⌜ 4 * p + 4 ≤ length (now s) ⌝ }
+    ensures { λ r. ⌜ r ≡ (if is 0 (wordAt (now (s .entry)) p) then 0 else 3000) ⌝ }
+{
+    if words::word(s, p) == 0 {
         return 0;
     }
     3000
 }
 
-fn row_fits(s: &[u8], start: usize, p: usize) -> bool
-    requires { ⌜ (start ≡ rowsStart (now s)) × (start ≤ p) × (4 * p + 4 ≤ length (now s)) × (40 ≤ length (now s)) ⌝ }
-    ensures { λ r. ⌜ r ≡ rowFits (now (s .entry)) p ⌝ }
+// A row: limit state, live kind, live factor, first record.
+fn row_misfit(s: &[u8], head: Header, i: usize) -> Fault
+    requires { ⌜ 16 * i + 16 ≤ length (now s) ⌝ }
+    ensures { λ r. ⌜ placeOf r ≡ misfitFrom 0 (layout head Rows .fields) (itemFrom (now (s .entry)) (4 * i) i) ⌝ }
 {
-    let w = words::word(s, p);
-    let j = (p - start) % 4;
-    if j == 0 {
-        return words::is_between(1, 2, w);
-    }
-    if j == 1 {
-        return words::is_between(0, 2, w);
-    }
-    if j == 2 {
-        return words::is_between(0, live_limit(words::word(s, p - 1)), w);
-    }
-    words::is_between(0, words::word(s, 9), w)
+    let p = 4 * i;
+    let first = field(3, in_range(s, p + 3, 0, head.records), Fault::Clear);
+    let factor = field(2, in_range(s, p + 2, 0, live_limit(s, p + 1)), first);
+    let live = field(1, in_range(s, p + 1, 0, 2), factor);
+    field(0, in_range(s, p, 1, 2), live)
 }
 
-fn record_fits(s: &[u8], start: usize, p: usize) -> bool
-    requires { ⌜ (start ≡ recordsStart (now s)) × (start ≤ p) × (4 * p + 4 ≤ length (now s)) × (40 ≤ length (now s)) ⌝ }
-    ensures { λ r. ⌜ r ≡ recordFits (now (s .entry)) p ⌝ }
+// A record: effect, factor, next record.
+fn record_misfit(s: &[u8], head: Header, i: usize) -> Fault
+    requires { ⌜ 12 * i + 12 ≤ length (now s) ⌝ }
+    ensures { λ r. ⌜ placeOf r ≡ misfitFrom 0 (layout head Records .fields) (itemFrom (now (s .entry)) (3 * i) i) ⌝ }
 {
-    let w = words::word(s, p);
-    let j = (p - start) % 3;
-    if j == 0 {
-        return words::is_between(1, words::word(s, 7), w);
-    }
-    if j == 1 {
-        return words::is_between(0, 3000, w);
-    }
-    words::is_between(0, words::word(s, 9), w)
+    let p = 3 * i;
+    let next = field(2, in_range(s, p + 2, 0, head.records), Fault::Clear);
+    let factor = field(1, in_range(s, p + 1, 0, 3000), next);
+    field(0, in_range(s, p, 1, head.effects), factor)
 }
 
-// The part's word at place p is within its limits.
-fn word_fits(s: &[u8], part: Part, start: usize, p: usize) -> bool
-    requires { ⌜ WordHeld (now s) part start p ⌝ }
-    ensures { λ r. ⌜ r ≡ wordFits part (now (s .entry)) p ⌝ }
+// The field at fault of item i of a part.
+fn item_misfit(s: &[u8], head: Header, part: Part, i: usize) -> Fault
+    requires { ⌜ (i < layout head part .items) × (4 * words head part ≤ length (now s)) ⌝ }
+    ensures { λ r. ⌜ placeOf r ≡ misfitFrom 0 (layout head part .fields) (itemFrom (now (s .entry)) (length (layout head part .fields) * i) i) ⌝ }
 {
     match part {
-        Part::Head => header_fits(s, p),
-        Part::Line => words::is_between(-5000, 5000, words::word(s, p)),
-        Part::Transverse => words::is_between(-1000, 1000, words::word(s, p)),
-        Part::Effects => effect_fits(s, start, p),
-        Part::Rows => row_fits(s, start, p),
-        Part::Records => record_fits(s, start, p),
+        Part::Head => header_misfit(s, head),
+        Part::Line => piece_misfit(s, head, i),
+        Part::Transverse => transverse_misfit(s, head, i),
+        Part::Effects => effect_misfit(s, head, i),
+        Part::Rows => row_misfit(s, head, i),
+        Part::Records => record_misfit(s, head, i),
     }
 }
 
-// The first of a part's words that is not.
-pub(crate) fn misfit(s: &[u8], part: Part, start: usize, words: usize) -> Fault
-    requires { ⌜ PartHeld (now s) part start words ⌝ }
-    ensures { λ r. ⌜ placeOf r ≡ firstMisfit part (now (s .entry)) ⌝ }
+// The lowest place at fault in a part, given as its own bytes.
+pub fn misfit(s: &[u8], head: Header, part: Part) -> Fault
+    requires { ⌜ Counted head × (4 * words head part ≤ length (now s)) ⌝ }
+    ensures { λ r. ⌜ placeOf r ≡ misfit (layout head part) (now (s .entry)) ⌝ }
 {
-    for p in start..start + words {
-        if word_fits(s, part, start, p) {} else {
-            return Fault::At(p);
+    for i in 0..sections::items(head, part) {
+        let fault = item_misfit(s, head, part, i);
+        if let Fault::At(j) = fault {
+            return Fault::At(sections::item_words(head, part) * i + j);
         }
     }
     Fault::Clear

@@ -1,21 +1,22 @@
-// The refusals, each the lowest place at fault, and the verdict.
+// The refusals of a job, each the lowest place at fault, and the verdict.
 ghost use mathlib.Core.Path.{_≡_};
-ghost use Prim.Native.Nat.{_≤_};
-ghost use mathlib.Core.Option.{none};
-ghost use lib.Dec.{leb};
+ghost use mathlib.Core.Option.{none, some};
+ghost use Prim.Native.Nat.{ℕ, _*_, _≤_};
 ghost use lib.ListN.{length};
 ghost use Rattle.exact.specs.Choice.{orElse};
-ghost use Rattle.model.specs.Refusals.{unless, crosses, fault1, fault2, fault3, fault4, fault5, fault6, fault7, fault8, refuse, verdict};
-ghost use Rattle.job.specs.Header.{headerOf, HeadFits, Sized};
-ghost use Rattle.job.specs.Limits.{placeOf};
-ghost use Rattle.job.specs.Rulings.{Rules, linesVerdict, factorsVerdict};
+ghost use Rattle.model.specs.Fields.{moved, misfit};
+ghost use Rattle.model.specs.Format.{headerOf, start, fault};
+ghost use Rattle.model.specs.Refusals.{crosses, signs, fault1, fault2, fault3, fault4, fault5, fault6, fault7, fault8, jobVerdict};
+ghost use Rattle.job.specs.Sized.{placeOf, Counted, Sized};
+ghost use Rattle.job.specs.Rulings.{Rules, testOf, Passed};
 use crate::defects;
 use crate::defects::Defect;
 use crate::header;
-use crate::header::Header;
 use crate::limits;
 use crate::limits::Fault;
-use crate::limits::Part;
+use crate::sections;
+use model::Header;
+use model::Part;
 
 // A refusal's number and place; number 0 is acceptance.
 pub struct Ruling {
@@ -39,24 +40,47 @@ fn frame(s: &[u8]) -> Fault
     Fault::Clear
 }
 
-// 2: a word among 1 to 9 outside its limits.
-fn limits(s: &[u8]) -> Fault
-    requires { ⌜ 40 ≤ length (now s) ⌝ }
+// 2: a header word outside its limits.
+fn limits(s: &[u8], head: Header) -> Fault
+    requires { ⌜ (head ≡ headerOf (now s)) × (40 ≤ length (now s)) ⌝ }
     ensures { λ r. ⌜ placeOf r ≡ fault2 (now (s .entry)) ⌝ }
 {
-    limits::misfit(s, Part::Head, 1, 9)
+    limits::header_misfit(sections::header(s, head), head)
 }
 
 // 3: the word count isn't what the header calls for.
 fn count(s: &[u8], head: Header) -> Fault
-    requires { ⌜ (head ≡ headerOf (now s)) × HeadFits head ⌝ }
+    requires { ⌜ (head ≡ headerOf (now s)) × Counted head ⌝ }
     ensures { λ r. ⌜ placeOf r ≡ fault3 (now (s .entry)) ⌝ }
 {
-    let due = header::words_due(head);
+    let due = sections::words_due(head);
     if s.len() / 4 == due {
         return Fault::Clear;
     }
     Fault::At(due)
+}
+
+// A place of a part as a place of the job.
+fn in_job(head: Header, part: Part, own: Fault) -> Fault
+    requires { ⌜ Counted head × ((p : ℕ) → placeOf own ≡ some p → p ≤ 42949672960) ⌝ }
+    ensures { λ r. ⌜ placeOf r ≡ moved (start head part) (placeOf own) ⌝ }
+{
+    match own {
+        Fault::At(p) => Fault::At(sections::start(head, part) + p),
+        Fault::Clear => Fault::Clear,
+    }
+}
+
+// The lowest place at fault in a part.
+fn fault(s: &[u8], head: Header, part: Part) -> Fault
+    requires { ⌜ Sized (now s) head ⌝ }
+    ensures { λ r. ⌜ placeOf r ≡ fault (now (s .entry)) (headerOf (now (s .entry))) part ⌝ }
+{
+    in_job(
+        head,
+        part,
+        limits::misfit(sections::section(s, head, part), head, part),
+    )
 }
 
 // The first fault, else the second.
@@ -74,14 +98,7 @@ fn ordinates(s: &[u8], head: Header) -> Fault
     requires { ⌜ Sized (now s) head ⌝ }
     ensures { λ r. ⌜ placeOf r ≡ fault4 (now (s .entry)) ⌝ }
 {
-    let line = limits::misfit(s, Part::Line, 10, 2 * head.pieces);
-    let across = limits::misfit(
-        s,
-        Part::Transverse,
-        header::transverse_start(head),
-        header::transverse_words(head),
-    );
-    or_else(line, across)
+    or_else(fault(s, head, Part::Line), fault(s, head, Part::Transverse))
 }
 
 // One is above 0 and the other below.
@@ -97,17 +114,27 @@ fn crosses(x: i64, y: i64) -> bool
     false
 }
 
-// 5: a piece with one ordinate above 0 and one below.
-fn crossing(s: &[u8], head: Header) -> Fault
-    requires { ⌜ Sized (now s) head ⌝ }
-    ensures { λ r. ⌜ placeOf r ≡ fault5 (now (s .entry)) ⌝ }
+// Of a line's own bytes: a piece with one ordinate above 0 and one below.
+pub fn crossing(s: &[u8], pieces: usize) -> Fault
+    requires { ⌜ 8 * pieces ≤ length (now s) ⌝ }
+    ensures { λ r. ⌜ placeOf r ≡ misfit (signs pieces) (now (s .entry)) ⌝ }
 {
-    for i in 0..head.pieces {
-        if crosses(words::word(s, 10 + 2 * i), words::word(s, 10 + 2 * i + 1)) {
-            return Fault::At(10 + 2 * i);
+    for i in 0..pieces {
+        let p = 2 * i;
+        if crosses(words::word(s, p), words::word(s, p + 1)) {
+            return Fault::At(p);
         }
     }
     Fault::Clear
+}
+
+// 5: a piece of the job's line.
+fn signs(s: &[u8], head: Header) -> Fault
+    requires { ⌜ Sized (now s) head ⌝ }
+    ensures { λ r. ⌜ placeOf r ≡ fault5 (now (s .entry)) ⌝ }
+{
+    let own = crossing(sections::section(s, head, Part::Line), head.pieces);
+    in_job(head, Part::Line, own)
 }
 
 // 6: an effect, row or record word outside its limits.
@@ -115,20 +142,10 @@ fn table(s: &[u8], head: Header) -> Fault
     requires { ⌜ Sized (now s) head ⌝ }
     ensures { λ r. ⌜ placeOf r ≡ fault6 (now (s .entry)) ⌝ }
 {
-    let effect = limits::misfit(
-        s,
-        Part::Effects,
-        header::effects_start(head),
-        2 * head.effects,
-    );
-    let row = limits::misfit(s, Part::Rows, header::rows_start(head), 4 * head.rows);
-    let record = limits::misfit(
-        s,
-        Part::Records,
-        header::records_start(head),
-        3 * head.records,
-    );
-    or_else(effect, or_else(row, record))
+    or_else(
+        fault(s, head, Part::Effects),
+        or_else(fault(s, head, Part::Rows), fault(s, head, Part::Records)),
+    )
 }
 
 // 7: a chain comes back to a record.
@@ -136,7 +153,11 @@ fn returning(s: &[u8], head: Header) -> Fault
     requires { ⌜ Sized (now s) head × (fault6 (now s) ≡ none) ⌝ }
     ensures { λ r. ⌜ placeOf r ≡ fault7 (now (s .entry)) ⌝ }
 {
-    defects::first_row(s, head, Defect::Return)
+    in_job(
+        head,
+        Part::Rows,
+        defects::first_row(s, head, Defect::Return),
+    )
 }
 
 // 8: a chain names an effect twice.
@@ -144,84 +165,46 @@ fn repeating(s: &[u8], head: Header) -> Fault
     requires { ⌜ Sized (now s) head × (fault6 (now s) ≡ none) × (fault7 (now s) ≡ none) ⌝ }
     ensures { λ r. ⌜ placeOf r ≡ fault8 (now (s .entry)) ⌝ }
 {
-    defects::first_row(s, head, Defect::Repeat)
+    in_job(
+        head,
+        Part::Rows,
+        defects::first_row(s, head, Defect::Repeat),
+    )
 }
 
-// 9: the patch buffer has fewer than N bytes.
-fn patch(head: Header, len: usize) -> Fault
-    ensures { λ r. ⌜ placeOf r ≡ unless (leb (head .pieces) len) (head .pieces) ⌝ }
+// What the test of a number from 2 on finds, those before it having found nothing.
+fn found(s: &[u8], head: Header, number: u32) -> Fault
+    requires { ⌜ Passed (now s) head number × (number ≤ 8) ⌝ }
+    ensures { λ r. ⌜ placeOf r ≡ testOf (now (s .entry)) number .found ⌝ }
 {
-    if len < head.pieces {
-        return Fault::At(head.pieces);
+    match number {
+        2 => limits(s, head),
+        3 => count(s, head),
+        4 => ordinates(s, head),
+        5 => signs(s, head),
+        6 => table(s, head),
+        7 => returning(s, head),
+        _ => repeating(s, head),
     }
-    Fault::Clear
-}
-
-fn refuse(number: u32, fault: Fault) -> Ruling
-    requires { ⌜ 1 ≤ number ⌝ }
-    ensures { λ r. ⌜ Rules r (refuse number (placeOf fault) none) ⌝ }
-{
-    match fault {
-        Fault::At(place) => Ruling { number, place },
-        Fault::Clear => Ruling {
-            number: 0,
-            place: 0,
-        },
-    }
-}
-
-// The factors' refusals, 6 to 8, then the host's.
-fn verdict_of_factors(s: &[u8], patch_len: usize, head: Header) -> Ruling
-    requires { ⌜ Sized (now s) head ⌝ }
-    ensures { λ r. ⌜ Rules r (factorsVerdict (now (s .entry)) «patch_len») ⌝ }
-{
-    let v6 = refuse(6, table(s, head));
-    if v6.number != 0 {
-        return v6;
-    }
-    let v7 = refuse(7, returning(s, head));
-    if v7.number != 0 {
-        return v7;
-    }
-    let v8 = refuse(8, repeating(s, head));
-    if v8.number != 0 {
-        return v8;
-    }
-    refuse(9, patch(head, patch_len))
-}
-
-// The lines' refusals, 4 and 5, then those above.
-fn verdict_of_lines(s: &[u8], patch_len: usize, head: Header) -> Ruling
-    requires { ⌜ Sized (now s) head ⌝ }
-    ensures { λ r. ⌜ Rules r (linesVerdict (now (s .entry)) «patch_len») ⌝ }
-{
-    let v4 = refuse(4, ordinates(s, head));
-    if v4.number != 0 {
-        return v4;
-    }
-    let v5 = refuse(5, crossing(s, head));
-    if v5.number != 0 {
-        return v5;
-    }
-    verdict_of_factors(s, patch_len, head)
 }
 
 // The lowest number, then the lowest place.
-pub fn verdict(s: &[u8], patch_len: usize) -> Ruling
-    ensures { λ r. ⌜ Rules r (verdict (now (s .entry)) «patch_len») ⌝ }
+pub fn verdict(s: &[u8]) -> Ruling
+    ensures { λ r. ⌜ Rules r (jobVerdict (now (s .entry))) ⌝ }
 {
-    let v1 = refuse(1, frame(s));
-    if v1.number != 0 {
-        return v1;
-    }
-    let v2 = refuse(2, limits(s));
-    if v2.number != 0 {
-        return v2;
+    let first = frame(s);
+    if let Fault::At(place) = first {
+        return Ruling { number: 1, place };
     }
     let head = header::read(s);
-    let v3 = refuse(3, count(s, head));
-    if v3.number != 0 {
-        return v3;
+    for number in 2..9 {
+        let fault = found(s, head, number);
+        if let Fault::At(place) = fault {
+            return Ruling { number, place };
+        }
     }
-    verdict_of_lines(s, patch_len, head)
+    Ruling {
+        number: 0,
+        place: 0,
+    }
 }

@@ -1,57 +1,96 @@
-// Each section as its own bytes of the job.
+// Each part of a job by the table: the words of its items, their number, its start and its own bytes.
 ghost use mathlib.Core.Path.{_≡_};
-ghost use Prim.Native.Nat.{_+_, _*_, _≤_};
+ghost use Prim.Native.Nat.{_*_, _≤_};
 ghost use lib.ListN.{length};
-ghost use Rattle.model.specs.Sections.{sectionOf, lineSection, transverseSection, effectSection, rowSection, recordSection};
-ghost use Rattle.job.specs.Header.{Sized};
-use crate::header;
-use crate::header::Header;
+ghost use Rattle.model.specs.Format.{layout, words, start, wordsDue, section, sectionOf};
+ghost use Rattle.model.specs.declared.Part.the-variants.{Head};
+ghost use Rattle.job.specs.Sized.{Counted, Sized};
+use model::Header;
+use model::Part;
 
-// So many words of the job from a start on.
-fn section(s: &[u8], start: usize, words: usize) -> &[u8]
-    requires { ⌜ 4 * (start + words) ≤ length (now s) ⌝ }
-    ensures { λ r. ⌜ now r ≡ sectionOf (now (s .entry)) start words ⌝ }
+// The words of an item.
+pub(crate) fn item_words(head: Header, part: Part) -> usize
+    ensures { λ r. ⌜ (r ≡ length (layout head part .fields)) × (r ≤ 10) ⌝ }
 {
-    let a = 4 * start;
-    let e = a + 4 * words;
+    match part {
+        Part::Head => 10,
+        Part::Line => 2,
+        Part::Transverse => 1,
+        Part::Effects => 2,
+        Part::Rows => 4,
+        Part::Records => 3,
+    }
+}
+
+// The number of items.
+pub(crate) fn items(head: Header, part: Part) -> usize
+    requires { ⌜ Counted head ⌝ }
+    ensures { λ r. ⌜ (r ≡ layout head part .items) × (r ≤ 4294967296) ⌝ }
+{
+    match part {
+        Part::Head => 1,
+        Part::Line => head.pieces,
+        Part::Transverse => {
+            let w = head.width;
+            let g = head.spacing;
+            (w + g - 1) / g + 1
+        }
+        Part::Effects => head.effects,
+        Part::Rows => head.rows,
+        Part::Records => head.records,
+    }
+}
+
+// A part's words.
+fn words(head: Header, part: Part) -> usize
+    requires { ⌜ Counted head ⌝ }
+    ensures { λ r. ⌜ (r ≡ words head part) × (r ≤ 42949672960) ⌝ }
+{
+    item_words(head, part) * items(head, part)
+}
+
+// Each part starts where the one before it ends.
+pub(crate) fn start(head: Header, part: Part) -> usize
+    requires { ⌜ Counted head ⌝ }
+    ensures { λ r. ⌜ (r ≡ start head part) × (r ≤ 214748364800) ⌝ }
+{
+    let line = words(head, Part::Head);
+    let transverse = line + words(head, Part::Line);
+    let effects = transverse + words(head, Part::Transverse);
+    let rows = effects + words(head, Part::Effects);
+    let records = rows + words(head, Part::Rows);
+    match part {
+        Part::Head => 0,
+        Part::Line => line,
+        Part::Transverse => transverse,
+        Part::Effects => effects,
+        Part::Rows => rows,
+        Part::Records => records,
+    }
+}
+
+// The word count that the header calls for.
+pub(crate) fn words_due(head: Header) -> usize
+    requires { ⌜ Counted head ⌝ }
+    ensures { λ r. ⌜ (r ≡ wordsDue head) × (r ≤ 257698037760) ⌝ }
+{
+    start(head, Part::Records) + words(head, Part::Records)
+}
+
+// The header's own bytes, whatever its words say.
+pub(crate) fn header(s: &[u8], head: Header) -> &[u8]
+    requires { ⌜ 40 ≤ length (now s) ⌝ }
+    ensures { λ r. ⌜ now r ≡ section (now (s .entry)) head Head ⌝ }
+{
+    &s[0..40]
+}
+
+// A part as its own bytes of the job.
+pub fn section(s: &[u8], head: Header, part: Part) -> &[u8]
+    requires { ⌜ Sized (now s) head ⌝ }
+    ensures { λ r. ⌜ now r ≡ sectionOf (now (s .entry)) part ⌝ }
+{
+    let a = 4 * start(head, part);
+    let e = a + 4 * words(head, part);
     &s[a..e]
-}
-
-pub fn line(s: &[u8], head: Header) -> &[u8]
-    requires { ⌜ Sized (now s) head ⌝ }
-    ensures { λ r. ⌜ now r ≡ lineSection (now (s .entry)) ⌝ }
-{
-    section(s, 10, 2 * head.pieces)
-}
-
-pub fn transverse(s: &[u8], head: Header) -> &[u8]
-    requires { ⌜ Sized (now s) head ⌝ }
-    ensures { λ r. ⌜ now r ≡ transverseSection (now (s .entry)) ⌝ }
-{
-    section(
-        s,
-        header::transverse_start(head),
-        header::transverse_words(head),
-    )
-}
-
-pub fn effects(s: &[u8], head: Header) -> &[u8]
-    requires { ⌜ Sized (now s) head ⌝ }
-    ensures { λ r. ⌜ now r ≡ effectSection (now (s .entry)) ⌝ }
-{
-    section(s, header::effects_start(head), 2 * head.effects)
-}
-
-pub fn rows(s: &[u8], head: Header) -> &[u8]
-    requires { ⌜ Sized (now s) head ⌝ }
-    ensures { λ r. ⌜ now r ≡ rowSection (now (s .entry)) ⌝ }
-{
-    section(s, header::rows_start(head), 4 * head.rows)
-}
-
-pub fn records(s: &[u8], head: Header) -> &[u8]
-    requires { ⌜ Sized (now s) head ⌝ }
-    ensures { λ r. ⌜ now r ≡ recordSection (now (s .entry)) ⌝ }
-{
-    section(s, header::records_start(head), 3 * head.records)
 }

@@ -2,16 +2,16 @@
 use mathlib.Core.Path.{_≡_, refl, _∙_, ap}
 use mathlib.Core.Bool.{Bool, true, false, _&&_, and-eq-true-iff}
 use mathlib.Core.Option.{Option, none, some, Option·some-ne-none}
-use mathlib.Core.List.{List}
-use Prim.Native.Nat.{ℕ, _+_, _*_, _/_, _%_, _≤_}
+use mathlib.Core.List.{List, [], _∷_}
+use Prim.Native.Nat.{ℕ, zero, suc, _+_, _*_, _/_, _%_, _≤_}
 use native.Mathlib.Omega.{arith}
 use lib.Dec.{eqb, leb}
-use lib.ListN.{length}
+use lib.ListN.{length, getD}
 use borrow.Author.Tests.{eqb-true, leb-true}
 use Rattle.exact.specs.Choice.{orElse}
 use Rattle.model.specs.Words.{wordAt}
 use Rattle.model.specs.Format.{headerOf, is, words, start, wordsDue}
-use Rattle.model.specs.Refusals.{Refusal, unless, fault1, fault2, fault3, fault4, fault5, fault6, fault7, fault8, fault9, refuse, jobVerdict, verdict}
+use Rattle.model.specs.Refusals.{Refusal, Test, _finds_, firstRefusal, jobTests, unless, fault1, fault2, fault3, fault4, fault5, fault6, fault7, fault8, fault9, refuse, jobVerdict, verdict}
 use Rattle.model.specs.declared.Part.{Part}
 use Rattle.model.specs.declared.Part.the-variants.{Head, Line, Transverse, Effects, Rows, Records}
 
@@ -22,6 +22,16 @@ refuse-none n (some p) higher e = absurd (Option·some-ne-none _ e)
 unless-none : (t : Bool) (place : ℕ) → unless t place ≡ none → t ≡ true
 unless-none true place e = refl
 unless-none false place e = absurd (Option·some-ne-none _ e)
+
+-- no test at all
+abbrev pub noTest : Test
+noTest = 0 finds none
+
+-- where no test refuses, none finds a place
+all-clear : (tests : List Test) → firstRefusal tests ≡ none → (k : ℕ) → getD tests k noTest .found ≡ none
+all-clear [] e k = refl
+all-clear (t ∷ rest) e zero = refuse-none (t .number) (t .found) _ e .0
+all-clear (t ∷ rest) e (suc k) = all-clear rest (refuse-none (t .number) (t .found) _ e .1) k
 
 -- no number finds a fault
 pub record Clear (b : List ℕ) : Type 0 where
@@ -36,17 +46,8 @@ pub record Clear (b : List ℕ) : Type 0 where
 
 -- an accepted job has no fault of any number
 pub clear : (b : List ℕ) → jobVerdict b ≡ none → Clear b
-unfolding jobVerdict
-clear b e =
-    let r1 = refuse-none 1 (fault1 b) _ e in
-    let r2 = refuse-none 2 (fault2 b) _ (r1 .1) in
-    let r3 = refuse-none 3 (fault3 b) _ (r2 .1) in
-    let r4 = refuse-none 4 (fault4 b) _ (r3 .1) in
-    let r5 = refuse-none 5 (fault5 b) _ (r4 .1) in
-    let r6 = refuse-none 6 (fault6 b) _ (r5 .1) in
-    let r7 = refuse-none 7 (fault7 b) _ (r6 .1) in
-    let r8 = refuse-none 8 (fault8 b) _ (r7 .1) in
-    record { c1 = r1 .0; c2 = r2 .0; c3 = r3 .0; c4 = r4 .0; c5 = r5 .0; c6 = r6 .0; c7 = r7 .0; c8 = r8 .0 }
+unfolding jobVerdict jobTests
+clear b e = let c = all-clear (jobTests b) e in record { c1 = c 0; c2 = c 1; c3 = c 2; c4 = c 3; c5 = c 4; c6 = c 5; c7 = c 6; c8 = c 7 }
 
 -- ---- 1 and 3: the size
 -- a job without fault 1 has a header
@@ -83,6 +84,6 @@ pub both-accept : (b : List ℕ) (patch : ℕ) → verdict b patch ≡ none → 
 unfolding verdict
 both-accept b patch e = go (jobVerdict b) e
   where
-    go : (v : Option Refusal) → orElse v (refuse 9 (fault9 b patch) none) ≡ none → (v ≡ none) × (headerOf b .pieces ≤ patch)
+    go : (v : Option Refusal) → orElse v (firstRefusal ((9 finds fault9 b patch) ∷ [])) ≡ none → (v ≡ none) × (headerOf b .pieces ≤ patch)
     go none f = (refl, patch-fits b patch (refuse-none 9 (fault9 b patch) none f .0))
     go (some r) f = absurd (Option·some-ne-none _ f)

@@ -1,46 +1,49 @@
-use mathlib.Core.Path.{_≡_, refl, sym, _∙_, ap, subst}
+use mathlib.Core.Path.{_≡_, refl, sym, ap, subst}
+use mathlib.Core.Bool.{Bool, not}
 use mathlib.Core.Option.{none, some}
 use mathlib.Core.List.{List}
 use Prim.Native.Nat.{ℕ, _+_, _-_, _*_, _<_}
+use native.Mathlib.Nat.{add-zero}
 use native.Mathlib.Omega.{arith}
 use lib.ListN.{length}
-use Rattle.model.specs.Sections.{rowCount, recordCount, rowsStart, rowSection}
+use Rattle.exact.specs.Choice.{if_then_else_}
+use Rattle.exact.proofs.Bridge.{by-test}
+use Rattle.model.specs.Fields.{moved, itemMisfit, misfit}
+use Rattle.model.specs.Format.{headerOf, sectionOf}
 use Rattle.model.specs.Decode.{firstRecord}
-use Rattle.model.specs.Refusals.{itemPlace, fault6}
+use Rattle.model.specs.Refusals.{rowTests, fault6}
+use Rattle.model.specs.declared.Header.{Header}
+use Rattle.model.specs.declared.Part.the-variants.{Rows}
 use Rattle.chains.specs.Linked.{Linked, EffectsTo}
-use Rattle.job.specs.declared.header.Header.{Header}
-use Rattle.job.specs.Header.{rowsStartBy, Sized}
-use Rattle.job.specs.Defects.{chainFails}
-use Rattle.job.proofs.Scans.{Scanned, scan-begins, scan-goes-on, scan-found, scan-over}
-use Rattle.job.proofs.Starts.{rows-length}
-use Rattle.job.proofs.Linked.{linked, effects-few, first-is, first-held, ends, fails}
+use Rattle.job.specs.Sized.{Sized}
+use Rattle.job.specs.Defects.{chainPasses}
+use Rattle.job.proofs.Scans.{Searched, search-begins, search-goes-on, search-found, search-over}
+use Rattle.job.proofs.Sizes.{part-length}
+use Rattle.job.proofs.Linked.{linked, effects-few, first-is, first-held, ends, passes}
 use Rattle.job.proofs.defects.first_row.Statement.{statement}
 use Rattle.job.proofs.defects.first_row.Tie as tie
 
 abbrev Inv-loop : tie.InvT-loop
-Inv-loop s head defect start rows records i₀ i-end i = Scanned (λ j. chainFails defect s (j + 1)) 0 (rowCount s) i
+Inv-loop s head defect rows records i₀ i-end i = Searched (itemMisfit (rowTests (headerOf s .rows) (chainPasses defect s) .fields) (sectionOf s Rows)) (headerOf s .rows) i
 
 abbrev μ-loop : tie.MeasureT-loop
-μ-loop s head defect start rows records i₀ i-end i = i-end - i
+μ-loop s head defect rows records i₀ i-end i = i-end - i
 
-rows-start-requires : tie.Need-rows-start-requires Inv-loop μ-loop
-rows-start-requires c κs = c .before .pre .0 .fits
+section-requires : tie.Need-section-requires Inv-loop μ-loop
+section-requires c κs = c .before .pre .0
 
-rows-requires : tie.Need-rows-requires Inv-loop μ-loop
-rows-requires c κs = c .before .before .pre .0
-
-records-requires : tie.Need-records-requires Inv-loop μ-loop
-records-requires c κs = c .before .before .before .pre .0
+section-requires-2 : tie.Need-section-requires-2 Inv-loop μ-loop
+section-requires-2 c κs = c .before .before .pre .0
 
 loop-holds : tie.Need-loop-holds Inv-loop μ-loop
-loop-holds c = scan-begins _ _ _ refl
+loop-holds c = search-begins _ _
 
-here : (c : tie.In-loop Inv-loop μ-loop) → c .before .loop .i < rowCount (c .before .before .before .before .before .before .args .s .now)
-here c = omega (arith, ap (λ (h : Header). h .rows) (c .before .before .before .before .before .before .pre .0 .own), c .loop-test .taken)
+here : (c : tie.In-loop Inv-loop μ-loop) → c .before .loop .i < headerOf (c .before .before .before .before .before .args .s .now) .rows
+here c = omega (arith, ap (λ (h : Header). h .rows) (c .before .before .before .before .before .pre .0 .own), c .loop-test .taken)
 
 module _ (c : tie.After-count Inv-loop μ-loop) where
   abbrev st : tie.Start Inv-loop μ-loop
-  st = c .before .before .before .before .before .before .before
+  st = c .before .before .before .before .before .before
 
   abbrev b : List ℕ
   b = st .args .s .now
@@ -54,10 +57,10 @@ module _ (c : tie.After-count Inv-loop μ-loop) where
   abbrev clear : fault6 b ≡ none
   clear = st .pre .1
 
-  first : c .count .result ≡ firstRecord (rowSection b) (i + 1)
-  first = first-is b i (c .before .before .before .before .rows .ensures) (c .count .ensures .0)
+  first : c .count .result ≡ firstRecord (sectionOf b Rows) (i + 1)
+  first = first-is b i (c .before .before .before .before .section .ensures) (c .count .ensures .0)
 
-  count : st .args .head .records ≡ recordCount b
+  count : st .args .head .records ≡ headerOf b .records
   count = ap (λ (h : Header). h .records) (z .own)
 
 mul-count : tie.Need-mul-count Inv-loop μ-loop
@@ -68,12 +71,12 @@ add-count c = omega arith
 
 count-requires : tie.Need-count-requires Inv-loop μ-loop
 count-requires c κs =
-    let st = c .before .before .before .before .before .before in
-    omega (arith, ap length (c .before .before .before .rows .ensures), rows-length (st .args .s .now) (st .pre .0), here c)
+    let st = c .before .before .before .before .before in
+    omega (arith, ap length (c .before .before .before .section .ensures), part-length (st .pre .0) Rows, here c)
 
 is-defective-requires : tie.Need-is-defective-requires Inv-loop μ-loop
 is-defective-requires c κs =
-    let s = c .before .before .before .records .ensures in (
+    let s = c .before .before .before .section2 .ensures in (
       subst Linked (sym s) (linked (b c) (z c) (clear c)),
       subst (EffectsTo 16) (sym s) (effects-few (b c) (z c) (clear c)),
       first-held (b c) (z c) (clear c) (i c) (here (c .before)) s (first c) (count c),
@@ -81,22 +84,20 @@ is-defective-requires c κs =
     )
 
 -- the call's answer is row i's
-found : (c : tie.After-is-defective Inv-loop μ-loop) → chainFails (st (c .before) .args .defect) (b (c .before)) (i (c .before) + 1) ≡ c .is-defective .result
-found c =
+found : (c : tie.After-is-defective Inv-loop μ-loop) {t : Bool} → c .is-defective .result ≡ t → itemMisfit (rowTests (headerOf (b (c .before)) .rows) (chainPasses (st (c .before) .args .defect) (b (c .before))) .fields) (sectionOf (b (c .before)) Rows) (i (c .before)) ≡ (if t then some (4 * i (c .before)) else none)
+found c {t} e =
     let d = c .before in
-    fails (b d) (z d) (clear d) (i d) (here (d .before)) (d .before .before .before .records .ensures) (first d) (count d) (st d .args .defect) (st d .pre .2) (c .is-defective .ensures)
+    let p = passes (b d) (z d) (clear d) (i d) (here (d .before)) (d .before .before .before .section2 .ensures) (first d) (count d) (st d .args .defect) (st d .pre .2) (c .is-defective .ensures) in
+    rw (p, e) (by-test t (λ t. moved (4 * i d) (if not t then none else some 0) ≡ (if t then some (4 * i d) else none)) (λ _. ap some (add-zero (4 * i d))) (λ _. refl))
 
 mul-t14 : tie.Need-mul-t14 Inv-loop μ-loop
 mul-t14 c = omega arith
 
-add-t15 : tie.Need-add-t15 Inv-loop μ-loop
-add-t15 c = omega arith
-
 returns : tie.Need-returns Inv-loop μ-loop
+unfolding misfit
 returns c =
     let d = c .before .before in
-    ap (λ (k : ℕ). some (k + 4 * i d)) (c .before .before .before .before .before .before .before .rows-start .ensures .0 ∙ ap rowsStartBy (z d .own))
-    ∙ ap (itemPlace (rowsStart (b d)) 4) (scan-found (d .before .before .loop .inv) (omega (arith, here (d .before))) (found (c .before) ∙ c .if1 .taken))
+    sym (search-found (d .before .before .loop .inv) (here (d .before)) (found (c .before) (c .if1 .taken)))
 
 add-i : tie.Need-add-i Inv-loop μ-loop
 add-i c = omega arith
@@ -105,12 +106,13 @@ loop-less : tie.Need-loop-less Inv-loop μ-loop
 loop-less c = omega arith
 
 loop-again : tie.Need-loop-again Inv-loop μ-loop
-loop-again c = let d = c .before .before in scan-goes-on (d .before .before .loop .inv) (omega (arith, here (d .before))) (found (c .before) ∙ c .if1 .left)
+loop-again c = let d = c .before .before in search-goes-on (d .before .before .loop .inv) (here (d .before)) (found (c .before) (c .if1 .left))
 
 returns-2 : tie.Need-returns-2 Inv-loop μ-loop
+unfolding misfit
 returns-2 c =
-    let st = c .before .before .before .before .before .before in
-    ap (itemPlace (rowsStart (st .args .s .now)) 4) (scan-over (c .before .loop .inv) (omega (arith, ap (λ (h : Header). h .rows) (st .pre .0 .own))))
+    let st = c .before .before .before .before .before in
+    sym (search-over (c .before .loop .inv) (omega (arith, ap (λ (h : Header). h .rows) (st .pre .0 .own))))
 
 pub first-row-spec : {M : Type 1} → statement M
 first-row-spec =
@@ -118,16 +120,14 @@ first-row-spec =
     (tie.spec
     Inv-loop
     μ-loop
-    rows-start-requires
-    rows-requires
-    records-requires
+    section-requires
+    section-requires-2
     loop-holds
     mul-count
     add-count
     count-requires
     is-defective-requires
     mul-t14
-    add-t15
     returns
     add-i
     loop-less

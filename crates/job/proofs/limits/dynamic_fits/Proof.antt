@@ -1,46 +1,48 @@
-use mathlib.Core.Path.{_∙_, ap}
-use lib.Dec.{lit<}
-use lib.IntN.{pos}
-use mir.Syntax.{w64}
-use Rattle.exact.specs.Choice.{between}
-use Rattle.exact.proofs.Held.{any, lit, eq-yes}
-use Rattle.job.proofs.Tests.{is-failed}
 use borrow.Author.Needs.{needs}
+use lib.Dec.{lit<}
+use mir.Syntax.{w64}
+use Rattle.exact.proofs.Held.{got, lit, eq-yes}
+use Rattle.job.proofs.Words.{is-failed}
 use Rattle.job.proofs.limits.dynamic_fits.Statement.{statement}
 use Rattle.job.proofs.limits.dynamic_fits.Tie as tie
 
-is-between-requires : tie.Need-is-between-requires
-is-between-requires c κs = search needs
+word-requires : tie.Need-word-requires
+word-requires c κs = search needs
+
+in-range-requires : tie.Need-in-range-requires
+in-range-requires c κs = search needs
 
 returns : tie.Need-returns
 returns c =
-    let s = c .before .before in
-    rw (eq-yes (any (s .fits .kind)) (lit w64 1 (lit< tt)) (c .before .if1 .taken)) (c .is-between .ensures ∙ ap (between (pos 1000) (pos 1300)) (any (s .fits .value) .is))
+    let e1 = c .before in
+    rw (eq-yes (got w64 (e1 .before .word .ok) (e1 .before .word .ensures)) (lit w64 1 (lit< tt)) (e1 .if1 .taken)) (c .in-range .ensures)
 
-is-between-requires-2 : tie.Need-is-between-requires-2
-is-between-requires-2 c κs = search needs
+in-range-requires-2 : tie.Need-in-range-requires-2
+in-range-requires-2 c κs = search needs
 
 returns-2 : tie.Need-returns-2
 returns-2 c =
-    let s = c .before .before .before in
-    rw (eq-yes (any (s .fits .kind)) (lit w64 2 (lit< tt)) (c .before .if2 .taken)) (c .is-between2 .ensures ∙ ap (between (pos 0) (pos 0)) (any (s .fits .value) .is))
+    let e2 = c .before in
+    let e1 = e2 .before in
+    rw (eq-yes (got w64 (e1 .before .word .ok) (e1 .before .word .ensures)) (lit w64 2 (lit< tt)) (e2 .if2 .taken)) (c .in-range2 .ensures)
 
-is-between-requires-3 : tie.Need-is-between-requires-3
-is-between-requires-3 c κs = search needs
+in-range-requires-3 : tie.Need-in-range-requires-3
+in-range-requires-3 c κs = search needs
 
 returns-3 : tie.Need-returns-3
 returns-3 c =
-    let s = c .before .before .before in
-    rw (is-failed 1 (s .args .kind) (c .before .before .if1 .left), is-failed 2 (s .args .kind) (c .before .if2 .left))
-    (c .is-between3 .ensures ∙ ap (between (pos 0) (pos 5000)) (any (s .fits .value) .is))
+    let e2 = c .before in
+    let e1 = e2 .before in
+    rw (is-failed 1 (e1 .before .word .ensures .0) (e1 .if1 .left), is-failed 2 (e1 .before .word .ensures .0) (e2 .if2 .left)) (c .in-range3 .ensures)
 
 pub dynamic-fits-spec : {M : Type 1} → statement M
 dynamic-fits-spec =
     tie.close
     (tie.spec
-    is-between-requires
+    word-requires
+    in-range-requires
     returns
-    is-between-requires-2
+    in-range-requires-2
     returns-2
-    is-between-requires-3
+    in-range-requires-3
     returns-3)

@@ -1,16 +1,20 @@
+use borrow.Author.Needs.{needs}
 use mathlib.Core.Path.{refl}
 use lib.Dec.{lit<}
 use mir.Syntax.{w64}
-use Rattle.exact.proofs.Held.{any, lit, eq-yes}
-use Rattle.job.proofs.Tests.{is-failed}
+use Rattle.exact.proofs.Held.{got, lit, eq-yes}
+use Rattle.job.proofs.Words.{is-failed}
 use Rattle.job.proofs.limits.live_limit.Statement.{statement}
 use Rattle.job.proofs.limits.live_limit.Tie as tie
 
+word-requires : tie.Need-word-requires
+word-requires c κs = search needs
+
 returns : tie.Need-returns
-returns c = rw (eq-yes (any (c .before .fits .kind)) (lit w64 0 (lit< tt)) (c .if1 .taken)) refl
+returns c = rw (eq-yes (got w64 (c .before .word .ok) (c .before .word .ensures)) (lit w64 0 (lit< tt)) (c .if1 .taken)) refl
 
 returns-2 : tie.Need-returns-2
-returns-2 c = rw (is-failed 0 (c .before .args .kind) (c .if1 .left)) refl
+returns-2 c = rw (is-failed 0 (c .before .word .ensures .0) (c .if1 .left)) refl
 
 pub live-limit-spec : {M : Type 1} → statement M
-live-limit-spec = tie.close (tie.spec returns returns-2)
+live-limit-spec = tie.close (tie.spec word-requires returns returns-2)

@@ -1,43 +1,90 @@
-use mathlib.Core.Path.{sym, _∙_, ap}
-use mathlib.Core.Bool.{not}
-use Prim.Native.Nat.{_+_, _-_}
+use borrow.Author.Needs.{needs}
+use mathlib.Core.Path.{_≡_, sym, _∙_, ap}
+use Prim.Native.Nat.{ℕ, _+_, _-_, _*_, _≤_}
 use native.Mathlib.Omega.{arith}
-use Rattle.job.specs.Limits.{startOf, wordsOf, wordFits}
-use Rattle.job.proofs.Scans.{Scanned, scan-begins, scan-goes-on, scan-found, scan-over}
+use mathlib.Core.Option.{some}
+use Rattle.model.specs.Fields.{moved, itemMisfit, misfit}
+use Rattle.model.specs.Format.{layout}
+use Rattle.job.specs.Sized.{placeOf}
+use Rattle.job.proofs.Sizes.{few-words}
+use Rattle.job.proofs.Scans.{Searched, search-begins, search-goes-on, search-found, search-over}
+use Rattle.model.proofs.Fits.{below}
 use Rattle.job.proofs.limits.misfit.Statement.{statement}
 use Rattle.job.proofs.limits.misfit.Tie as tie
 
 abbrev Inv-loop : tie.InvT-loop
-Inv-loop s part start words p₀ p-end p = Scanned (λ i. not (wordFits part s i)) (startOf part s) (wordsOf part s) p
+Inv-loop s head part i₀ i-end i = Searched (itemMisfit (layout head part .fields) s) (layout head part .items) i
 
 abbrev μ-loop : tie.MeasureT-loop
-μ-loop s part start words p₀ p-end p = start + words - p
+μ-loop s head part i₀ i-end i = i-end - i
 
-add-p-end : tie.Need-add-p-end Inv-loop μ-loop
-add-p-end c = omega arith
+items-requires : tie.Need-items-requires Inv-loop μ-loop
+items-requires c κs = search needs
 
 loop-holds : tie.Need-loop-holds Inv-loop μ-loop
-loop-holds c = scan-begins _ _ _ (c .before .pre .start≡)
+loop-holds c = search-begins _ _
 
-word-fits-requires : tie.Need-word-fits-requires Inv-loop μ-loop
-word-fits-requires c κs =
-    let st = c .before .before .before in
-    record { start≡ = st .pre .start≡; from = omega arith; below = omega arith; inside = omega arith; header = st .pre .header }
+item-misfit-requires : tie.Need-item-misfit-requires Inv-loop μ-loop
+item-misfit-requires c κs = (omega (arith, c .before .before .items .ensures .0), c .before .before .before .before .pre .1)
+
+enum-known-fault : tie.Need-enum-known-fault Inv-loop μ-loop
+enum-known-fault c = search needs
+
+item-words-requires : tie.Need-item-words-requires Inv-loop μ-loop
+item-words-requires c κs = search needs
+
+-- the place at fault, where item i has one: as the code adds it up
+module _ (c : tie.After-item-words Inv-loop μ-loop) where
+  abbrev item : tie.After-item-misfit Inv-loop μ-loop
+  item = c .before .before .before .before
+
+  abbrev st : tie.Start Inv-loop μ-loop
+  st = item .before .before .before .before .before
+
+  abbrev place : ℕ
+  place = c .item-words .result * item .before .before .loop .i + c .before .before .fault .given .0 .0
+
+  found : misfit (layout (st .args .head) (st .args .part)) (st .args .s .now) ≡ some place
+  unfolding misfit
+  found =
+      let i = item .before .before .loop .i in
+      let j = c .before .before .fault .given .0 .0 in
+      let e = item .before .before .before .items .ensures .0 in
+      search-found (item .before .before .loop .inv) (omega arith) (ap (moved _) (sym (item .item-misfit .ensures) ∙ ap placeOf (c .before .before .fault .given .1)))
+      ∙ ap (λ (w : ℕ). some (w * i + j)) (sym (c .item-words .ensures .0))
+
+  small : place ≤ 42949672960
+  small = few-words (st .args .head) (st .args .part) (st .pre .0) (below (layout (st .args .head) (st .args .part)) _ place found)
+
+mul-t10 : tie.Need-mul-t10 Inv-loop μ-loop
+mul-t10 c = omega (arith, small c)
+
+add-t11 : tie.Need-add-t11 Inv-loop μ-loop
+add-t11 c = omega (arith, small c)
 
 returns : tie.Need-returns Inv-loop μ-loop
-returns c = scan-found (c .before .before .before .loop .inv) (omega arith) (ap not (sym (c .before .word-fits .ensures) ∙ c .if1 .left))
+returns c = sym (found c)
 
-add-p : tie.Need-add-p Inv-loop μ-loop
-add-p c = omega arith
+enum-told : tie.Need-enum-told Inv-loop μ-loop
+enum-told c = search needs
+
+add-i : tie.Need-add-i Inv-loop μ-loop
+add-i c = omega arith
 
 loop-less : tie.Need-loop-less Inv-loop μ-loop
 loop-less c = omega arith
 
 loop-again : tie.Need-loop-again Inv-loop μ-loop
-loop-again c = scan-goes-on (c .before .before .before .loop .inv) (omega arith) (ap not (sym (c .before .word-fits .ensures) ∙ c .if1 .taken))
+loop-again c =
+    let k = c .before .before in
+    let e = k .before .before .before .items .ensures .0 in
+    search-goes-on (k .before .before .loop .inv) (omega arith) (ap (moved _) (sym (k .item-misfit .ensures) ∙ ap placeOf (c .enum-told .given .1)))
 
 returns-2 : tie.Need-returns-2 Inv-loop μ-loop
-returns-2 c = scan-over (c .before .loop .inv) (omega arith)
+unfolding misfit
+returns-2 c =
+    let e = c .before .before .items .ensures .0 in
+    sym (search-over (c .before .loop .inv) (omega arith))
 
 pub misfit-spec : {M : Type 1} → statement M
 misfit-spec =
@@ -45,11 +92,16 @@ misfit-spec =
     (tie.spec
     Inv-loop
     μ-loop
-    add-p-end
+    items-requires
     loop-holds
-    word-fits-requires
+    item-misfit-requires
+    enum-known-fault
+    item-words-requires
+    mul-t10
+    add-t11
     returns
-    add-p
+    enum-told
+    add-i
     loop-less
     loop-again
     returns-2)

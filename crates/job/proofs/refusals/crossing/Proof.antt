@@ -1,84 +1,64 @@
+use borrow.Author.Needs.{needs}
 use mathlib.Core.Path.{_≡_, refl, sym, _∙_, ap, ap₂}
-use mathlib.Core.Bool.{Bool}
+use mathlib.Core.Bool.{Bool, not}
+use mathlib.Core.Option.{none, some}
 use mathlib.Core.List.{List}
-use Prim.Native.Nat.{ℕ, _+_, _-_, _*_, _<_}
+use Prim.Native.Nat.{ℕ, _+_, _-_, _*_}
+use native.Mathlib.Nat.{add-zero}
 use native.Mathlib.Omega.{arith}
 use mir.Syntax.{w64}
-use borrow.Author.Needs.{needs}
+use Rattle.exact.specs.Choice.{if_then_else_}
+use Rattle.exact.proofs.Bridge.{by-test}
 use Rattle.exact.proofs.Held.{got}
 use Rattle.model.specs.Words.{wordAt}
-use Rattle.model.specs.Sections.{headerWords, pieceCount}
-use Rattle.model.specs.Refusals.{crosses, itemPlace, fault5}
-use Rattle.job.specs.declared.header.Header.{Header}
-use Rattle.job.proofs.Starts.{due-bytes}
-use Rattle.job.proofs.Scans.{Scanned, scan-begins, scan-goes-on, scan-found, scan-over}
+use Rattle.model.specs.Refusals.{crosses, signs}
+use Rattle.model.specs.Fields.{moved, itemMisfit, misfit}
+use Rattle.job.proofs.Scans.{Searched, search-begins, search-goes-on, search-found, search-over}
 use Rattle.job.proofs.refusals.crossing.Statement.{statement}
 use Rattle.job.proofs.refusals.crossing.Tie as tie
 
--- piece i crosses 0
-abbrev crossed : List ℕ → ℕ → Bool
-crossed b i = crosses (wordAt b (headerWords + 2 * i)) (wordAt b (headerWords + 2 * i + 1))
+-- a piece by the test of refusal 5, of known answer
+piece : (n : ℕ) (s : List ℕ) (i : ℕ) {t : Bool} → crosses (wordAt s (2 * i)) (wordAt s (2 * i + 1)) ≡ t → itemMisfit (signs n .fields) s i ≡ (if t then some (2 * i) else none)
+piece n s i {t} e =
+    rw (add-zero (2 * i), e)
+    (by-test t (λ t. moved (2 * i) (if not t then none else some 0) ≡ (if t then some (2 * i) else none)) (λ _. ap some (add-zero (2 * i))) (λ _. refl))
 
 abbrev Inv-loop : tie.InvT-loop
-Inv-loop s i₀ i-end i = Scanned (crossed s) 0 (pieceCount s) i
+Inv-loop s pieces i₀ i = Searched (itemMisfit (signs pieces .fields) s) pieces i
 
 abbrev μ-loop : tie.MeasureT-loop
-μ-loop s i₀ i-end i = i-end - i
+μ-loop s pieces i₀ i = pieces - i
 
 loop-holds : tie.Need-loop-holds Inv-loop μ-loop
-loop-holds c = scan-begins _ _ _ refl
+loop-holds c = search-begins _ _
 
-mul-word : tie.Need-mul-word Inv-loop μ-loop
-mul-word c = omega arith
+mul-p : tie.Need-mul-p Inv-loop μ-loop
+mul-p c = omega arith
+
+word-requires : tie.Need-word-requires Inv-loop μ-loop
+word-requires c κs = omega arith
 
 add-word : tie.Need-add-word Inv-loop μ-loop
 add-word c = omega arith
 
-word-requires : tie.Need-word-requires Inv-loop μ-loop
-word-requires c κs = omega (arith, due-bytes (c .before .before .before .args .s .now) (c .before .before .before .args .head) (c .before .before .before .pre))
-
-mul-word-2 : tie.Need-mul-word-2 Inv-loop μ-loop
-mul-word-2 c = omega arith
-
-add-word-2 : tie.Need-add-word-2 Inv-loop μ-loop
-add-word-2 c = omega arith
-
-add-word-3 : tie.Need-add-word-3 Inv-loop μ-loop
-add-word-3 c = omega arith
-
 word-requires-2 : tie.Need-word-requires-2 Inv-loop μ-loop
-word-requires-2 c κs = omega (arith, due-bytes (c .before .before .before .before .args .s .now) (c .before .before .before .before .args .head) (c .before .before .before .before .pre))
+word-requires-2 c κs = omega arith
 
 crosses-requires : tie.Need-crosses-requires Inv-loop μ-loop
 crosses-requires c κs = search needs
 
-mul-t14 : tie.Need-mul-t14 Inv-loop μ-loop
-mul-t14 c = omega arith
-
-add-t15 : tie.Need-add-t15 Inv-loop μ-loop
-add-t15 c = omega arith
-
-module _ (c : tie.After-crosses Inv-loop μ-loop) where
-  abbrev st : tie.Start Inv-loop μ-loop
-  st = c .before .before .before .before .before .before
-
-  abbrev i : ℕ
-  i = c .before .before .before .before .loop .i
-
-  abbrev inv : Scanned (crossed (st .args .s .now)) 0 (pieceCount (st .args .s .now)) i
-  inv = c .before .before .before .before .loop .inv
-
-  here : i < 0 + pieceCount (st .args .s .now)
-  here = omega (arith, ap (λ (h : Header). h .pieces) (st .pre .own), c .before .before .before .loop-test .taken)
-
-  tested : c .crosses .result ≡ crossed (st .args .s .now) i
-  tested =
-      c .crosses .ensures ∙
-      ap₂ crosses (got w64 (c .before .before .word .ok) (c .before .before .word .ensures) .is) (got w64 (c .before .word2 .ok) (c .before .word2 .ensures) .is)
+-- the piece's test
+tested : (c : tie.After-crosses Inv-loop μ-loop) →
+    let s = c .before .before .before .before .before .before .args .s .now in
+    let p = 2 * c .before .before .before .before .loop .i in
+    c .crosses .result ≡ crosses (wordAt s p) (wordAt s (p + 1))
+tested c = c .crosses .ensures ∙ ap₂ crosses (got w64 (c .before .before .word .ok) (c .before .before .word .ensures) .is) (got w64 (c .before .word2 .ok) (c .before .word2 .ensures) .is)
 
 returns : tie.Need-returns Inv-loop μ-loop
-unfolding fault5
-returns c = ap (itemPlace headerWords 2) (scan-found (inv (c .before)) (here (c .before)) (sym (tested (c .before)) ∙ c .if1 .taken))
+unfolding misfit
+returns c =
+    let k = c .before in
+    sym (search-found (k .before .before .before .before .loop .inv) (omega arith) (piece 0 _ _ (sym (tested k) ∙ c .if1 .taken)))
 
 add-i : tie.Need-add-i Inv-loop μ-loop
 add-i c = omega arith
@@ -87,11 +67,13 @@ loop-less : tie.Need-loop-less Inv-loop μ-loop
 loop-less c = omega arith
 
 loop-again : tie.Need-loop-again Inv-loop μ-loop
-loop-again c = scan-goes-on (inv (c .before)) (here (c .before)) (sym (tested (c .before)) ∙ c .if1 .left)
+loop-again c =
+    let k = c .before in
+    search-goes-on (k .before .before .before .before .loop .inv) (omega arith) (piece 0 _ _ (sym (tested k) ∙ c .if1 .left))
 
 returns-2 : tie.Need-returns-2 Inv-loop μ-loop
-unfolding fault5
-returns-2 c = ap (itemPlace headerWords 2) (scan-over (c .before .loop .inv) (omega (arith, ap (λ (h : Header). h .pieces) (c .before .before .before .pre .own))))
+unfolding misfit
+returns-2 c = sym (search-over (c .before .loop .inv) (omega arith))
 
 pub crossing-spec : {M : Type 1} → statement M
 crossing-spec =
@@ -100,16 +82,11 @@ crossing-spec =
     Inv-loop
     μ-loop
     loop-holds
-    mul-word
-    add-word
+    mul-p
     word-requires
-    mul-word-2
-    add-word-2
-    add-word-3
+    add-word
     word-requires-2
     crosses-requires
-    mul-t14
-    add-t15
     returns
     add-i
     loop-less

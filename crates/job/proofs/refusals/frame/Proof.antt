@@ -1,12 +1,12 @@
-use mathlib.Core.Path.{refl, sym, _∙_, ap}
+use mathlib.Core.Path.{refl}
 use Prim.Native.Nat.{_%_}
 use lib.Dec.{lit<}
 use lib.ListN.{length}
 use mir.Syntax.{w64}
 use borrow.Author.Tests.{le-leb, lt-leb, eq-eqb, ne-eqb}
 use Rattle.exact.proofs.Held.{got, lit, eq-yes}
-use Rattle.model.specs.Refusals.{is, fault1}
-use Rattle.job.proofs.Tests.{is-failed}
+use Rattle.model.specs.Refusals.{fault1}
+use Rattle.job.proofs.Words.{is-failed}
 use borrow.Author.Needs.{needs}
 use Rattle.job.proofs.refusals.frame.Statement.{statement}
 use Rattle.job.proofs.refusals.frame.Tie as tie
@@ -30,7 +30,7 @@ returns-3 c =
     let d = c .before .before in
     let n = length (d .before .before .before .args .s .now) in
     let w = c .before .word in
-    rw (le-leb 40 n (d .before .if1 .left), eq-eqb (n % 4) 0 (d .if2 .left), ap (is 1) (sym (w .ensures .0)) ∙ is-failed 1 (w .result) (c .if3 .taken)) refl
+    rw (le-leb 40 n (d .before .if1 .left), eq-eqb (n % 4) 0 (d .if2 .left), is-failed 1 (w .ensures .0) (c .if3 .taken)) refl
 
 returns-4 : tie.Need-returns-4
 unfolding fault1

@@ -1,14 +1,36 @@
+use mathlib.Core.Path.{sym, _∙_, ap}
+use mathlib.Core.List.{List, [], _∷_}
+use Prim.Native.Nat.{ℕ}
+use native.Mathlib.Omega.{arith}
+use lib.ListN.{length}
+use Rattle.model.specs.Fields.{misfitFrom, itemFrom, misfit}
+use Rattle.model.specs.Format.{layout, faultIn}
 use Rattle.model.specs.Refusals.{fault2}
+use Rattle.model.specs.declared.Header.{Header}
+use Rattle.model.specs.declared.Part.the-variants.{Head}
+use Rattle.model.proofs.Sections.{section-length}
+use Rattle.job.proofs.Sizes.{only-item}
 use borrow.Author.Needs.{needs}
 use Rattle.job.proofs.refusals.limits.Statement.{statement}
 use Rattle.job.proofs.refusals.limits.Tie as tie
 
-misfit-requires : tie.Need-misfit-requires
-misfit-requires c κs = search needs
+header-requires : tie.Need-header-requires
+header-requires c κs = search needs
+
+header-misfit-requires : tie.Need-header-misfit-requires
+header-misfit-requires c κs =
+    let st = c .before .before in
+    let h = st .pre .1 in
+    omega (arith, ap length (c .header .ensures), section-length (st .args .s .now) (st .args .head) Head (omega arith))
 
 returns : tie.Need-returns
-unfolding fault2
-returns c = c .misfit .ensures
+unfolding fault2 misfit
+returns c =
+    let st = c .before .before .before in
+    c .header-misfit .ensures
+    ∙ ap (λ (s : List ℕ). misfitFrom 0 (layout (st .args .head) Head .fields) (itemFrom s 0 0)) (c .before .header .ensures)
+    ∙ sym (only-item _)
+    ∙ ap (λ (head : Header). faultIn (st .args .s .now) head (Head ∷ [])) (st .pre .0)
 
 pub limits-spec : {M : Type 1} → statement M
-limits-spec = tie.close (tie.spec misfit-requires returns)
+limits-spec = tie.close (tie.spec header-requires header-misfit-requires returns)

@@ -1,96 +1,82 @@
-use mathlib.Core.Path.{_≡_, sym, subst}
-use mathlib.Core.Option.{none}
-use mathlib.Core.List.{List}
-use Prim.Native.Nat.{ℕ}
-use Rattle.model.specs.Refusals.{fault1, fault2, fault3, refuse, verdict}
-use Rattle.job.specs.Header.{HeadFits}
-use Rattle.job.specs.Rulings.{Rules}
-use Rattle.job.proofs.Rulings.{ruled, settles, finds-none, leaves, has-header, head-fits, is-sized}
+use mathlib.Core.Path.{refl, sym, _∙_, ap}
+use Prim.Native.Nat.{_-_, _≤_}
+use native.Mathlib.Omega.{arith}
+use Rattle.model.proofs.Verdict.{has-header}
+use Rattle.job.specs.Sized.{placeOf}
+use Rattle.job.specs.Rulings.{Passed}
+use Rattle.job.proofs.Rulings.{begins, ruled, frame-refuses, refuses, goes-on, accepts}
 use borrow.Author.Needs.{needs}
 use Rattle.job.proofs.refusals.verdict.Statement.{statement}
 use Rattle.job.proofs.refusals.verdict.Tie as tie
 
--- at each number: the job, the ruling, and that it has no fault where the next number is asked
-abbrev b1 : tie.After-frame → List ℕ
-b1 c = c .before .before .args .s .now
+abbrev Inv-loop : tie.InvT-loop
+Inv-loop s head number₀ number = Passed s head number × (number ≤ 9)
 
-rule1 : (c : tie.After-refuse) → Rules (c .refuse .result) (refuse 1 (fault1 (b1 (c .before))) none)
-rule1 c = ruled _ 1 (c .before .frame .result) (c .before .frame .ensures) (c .refuse .ensures)
+abbrev μ-loop : tie.MeasureT-loop
+μ-loop s head number₀ number = 9 - number
 
-clear1 : (c : tie.Else1) → fault1 (b1 (c .before .before .before)) ≡ none
-clear1 c = finds-none _ 1 _ (rule1 (c .before .before)) (c .if1 .left)
-
-abbrev b2 : tie.After-limits → List ℕ
-b2 c = b1 (c .before .before .before .before)
-
-rule2 : (c : tie.After-refuse2) → Rules (c .refuse2 .result) (refuse 2 (fault2 (b2 (c .before))) none)
-rule2 c = ruled _ 2 (c .before .limits .result) (c .before .limits .ensures) (c .refuse2 .ensures)
-
-clear2 : (c : tie.Else2) → fault2 (b2 (c .before .before .before)) ≡ none
-clear2 c = finds-none _ 2 _ (rule2 (c .before .before)) (c .if2 .left)
-
-abbrev b3 : tie.After-count → List ℕ
-b3 c = b2 (c .before .before .before .before .before)
-
-rule3 : (c : tie.After-refuse3) → Rules (c .refuse3 .result) (refuse 3 (fault3 (b3 (c .before))) none)
-rule3 c = ruled _ 3 (c .before .count .result) (c .before .count .ensures) (c .refuse3 .ensures)
-
-clear3 : (c : tie.Else3) → fault3 (b3 (c .before .before .before)) ≡ none
-clear3 c = finds-none _ 3 _ (rule3 (c .before .before)) (c .if3 .left)
-
-frame-requires : tie.Need-frame-requires
+frame-requires : tie.Need-frame-requires Inv-loop μ-loop
 frame-requires c κs = search needs
 
-refuse-requires : tie.Need-refuse-requires
-refuse-requires c κs = search needs
+enum-known-first : tie.Need-enum-known-first Inv-loop μ-loop
+enum-known-first c = search needs
 
-returns : tie.Need-returns
-unfolding verdict
-returns c = settles _ 1 (fault1 _) _ (rule1 (c .before .before)) (c .if1 .taken)
+returns : tie.Need-returns Inv-loop μ-loop
+returns c = let k = c .before .before .before in frame-refuses _ _ (sym (k .frame .ensures) ∙ ap placeOf (c .before .first .given .1))
 
-limits-requires : tie.Need-limits-requires
-limits-requires c κs = has-header _ (clear1 c)
+enum-told : tie.Need-enum-told Inv-loop μ-loop
+enum-told c = search needs
 
-refuse-requires-2 : tie.Need-refuse-requires-2
-refuse-requires-2 c κs = search needs
+read-requires : tie.Need-read-requires Inv-loop μ-loop
+read-requires c κs = has-header _ (sym (c .before .before .frame .ensures) ∙ ap placeOf (c .enum-told .given .1))
 
-returns-2 : tie.Need-returns-2
-unfolding verdict
-returns-2 c = leaves _ 1 _ (clear1 (c .before .before .before .before)) (settles _ 2 (fault2 _) _ (rule2 (c .before .before)) (c .if2 .taken))
+loop-holds : tie.Need-loop-holds Inv-loop μ-loop
+loop-holds c = (begins (c .read .ensures) (sym (c .before .before .before .frame .ensures) ∙ ap placeOf (c .before .enum-told .given .1)), omega arith)
 
-read-requires : tie.Need-read-requires
-read-requires c κs = has-header _ (clear1 (c .before .before .before .before))
+found-requires : tie.Need-found-requires Inv-loop μ-loop
+found-requires c κs = (c .before .loop .inv .0, omega arith)
 
-count-requires : tie.Need-count-requires
-count-requires c κs = (c .read .ensures, subst HeadFits (sym (c .read .ensures)) (head-fits _ (clear2 (c .before))))
+enum-known-fault : tie.Need-enum-known-fault Inv-loop μ-loop
+enum-known-fault c = search needs
 
-refuse-requires-3 : tie.Need-refuse-requires-3
-refuse-requires-3 c κs = search needs
+returns-2 : tie.Need-returns-2 Inv-loop μ-loop
+returns-2 c =
+    let k = c .before .before .before in
+    let inv = k .before .before .loop .inv in
+    ruled _ _ (omega (arith, inv .0 .first)) (refuses (inv .0) (omega arith) _ (sym (k .found .ensures) ∙ ap placeOf (c .before .fault .given .1)))
 
-returns-3 : tie.Need-returns-3
-unfolding verdict
-returns-3 c = leaves _ 1 _ (clear1 (c .before .before .before .before .before .before .before .before .before)) (leaves _ 2 _ (clear2 (c .before .before .before .before .before)) (settles _ 3 (fault3 _) _ (rule3 (c .before .before)) (c .if3 .taken)))
+enum-told-2 : tie.Need-enum-told-2 Inv-loop μ-loop
+enum-told-2 c = search needs
 
-verdict-of-lines-requires : tie.Need-verdict-of-lines-requires
-verdict-of-lines-requires c κs = is-sized _ (c .before .before .before .before .read .ensures) (clear1 (c .before .before .before .before .before .before .before .before .before)) (clear2 (c .before .before .before .before .before)) (clear3 c)
+add-number : tie.Need-add-number Inv-loop μ-loop
+add-number c = omega arith
 
-returns-4 : tie.Need-returns-4
-unfolding verdict
-returns-4 c = leaves _ 1 _ (clear1 (c .before .before .before .before .before .before .before .before .before .before)) (leaves _ 2 _ (clear2 (c .before .before .before .before .before .before)) (leaves _ 3 _ (clear3 (c .before)) (c .verdict-of-lines .ensures)))
+loop-less : tie.Need-loop-less Inv-loop μ-loop
+loop-less c = omega arith
+
+loop-again : tie.Need-loop-again Inv-loop μ-loop
+loop-again c = let k = c .before .before in (goes-on (k .before .before .loop .inv .0) (sym (k .found .ensures) ∙ ap placeOf (c .enum-told2 .given .1)), omega arith)
+
+returns-3 : tie.Need-returns-3 Inv-loop μ-loop
+returns-3 c = record { says = sym (accepts (c .before .loop .inv .0) (omega arith)); blank = λ _. refl }
 
 pub verdict-spec : {M : Type 1} → statement M
 verdict-spec =
     tie.close
     (tie.spec
+    Inv-loop
+    μ-loop
     frame-requires
-    refuse-requires
+    enum-known-first
     returns
-    limits-requires
-    refuse-requires-2
-    returns-2
+    enum-told
     read-requires
-    count-requires
-    refuse-requires-3
-    returns-3
-    verdict-of-lines-requires
-    returns-4)
+    loop-holds
+    found-requires
+    enum-known-fault
+    returns-2
+    enum-told-2
+    add-number
+    loop-less
+    loop-again
+    returns-3)

@@ -1,14 +1,19 @@
-use borrow.Author.Needs.{needs}
-use mathlib.Core.Path.{_≡_, ap}
-use Prim.Native.Nat.{ℕ, _+_, _-_, _*_}
+use mathlib.Core.Path.{_∙_}
 use native.Mathlib.Omega.{arith}
-use lib.ListN.{take, drop}
-use Rattle.model.specs.Sections.{sectionOf}
+use borrow.Author.Needs.{needs}
+use Rattle.model.specs.Format.{section}
+use Rattle.job.proofs.Sizes.{cut, counts, own-section, part-in}
 use Rattle.job.proofs.sections.section.Statement.{statement}
 use Rattle.job.proofs.sections.section.Tie as tie
 
+start-requires : tie.Need-start-requires
+start-requires c κs = counts (c .before .pre)
+
 mul-a : tie.Need-mul-a
 mul-a c = search needs
+
+words-requires : tie.Need-words-requires
+words-requires c κs = counts (c .before .before .pre)
 
 mul-e : tie.Need-mul-e
 mul-e c = search needs
@@ -23,15 +28,26 @@ part-result-start : tie.Need-part-result-start
 part-result-start c = search needs
 
 part-result-end : tie.Need-part-result-end
-part-result-end c = search needs
+part-result-end c =
+    let st = c .before .before .before in
+    omega (arith, c .before .start .ensures .0, c .words .ensures .0, part-in (st .pre) (st .args .part))
 
 returns : tie.Need-returns
-unfolding sectionOf
+unfolding section
 returns c =
-    let a = c .before .args in
-    let e : 4 * a .start + 4 * a .words - 4 * a .start ≡ 4 * a .words = omega arith in
-    ap (λ (k : ℕ). take k (drop (4 * a .start) (a .s .now))) e
+    let st = c .before .before .before .before in
+    cut (st .args .s .now) (c .before .before .start .ensures .0) (c .before .words .ensures .0) ∙ own-section (st .pre) (st .args .part)
 
 pub section-spec : {M : Type 1} → statement M
 section-spec =
-    tie.close (tie.spec mul-a mul-e add-e sub-result part-result-start part-result-end returns)
+    tie.close
+    (tie.spec
+    start-requires
+    mul-a
+    words-requires
+    mul-e
+    add-e
+    sub-result
+    part-result-start
+    part-result-end
+    returns)

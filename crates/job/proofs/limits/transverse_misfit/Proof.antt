@@ -1,0 +1,21 @@
+use mathlib.Core.Path.{_≡_, refl}
+use Prim.Native.Nat.{_+_, _*_}
+use native.Mathlib.Omega.{arith}
+use borrow.Author.Needs.{needs}
+use Rattle.job.proofs.limits.transverse_misfit.Statement.{statement}
+use Rattle.job.proofs.limits.transverse_misfit.Tie as tie
+
+within-requires : tie.Need-within-requires
+within-requires c κs = search needs
+
+field-requires : tie.Need-field-requires
+field-requires c κs = search needs
+
+returns : tie.Need-returns
+returns c =
+    let i = c .before .before .before .args .i in
+    let first : 1 * i + 0 ≡ i = omega arith in
+    rw (c .field .ensures, c .before .within .ensures, first) refl
+
+pub transverse-misfit-spec : {M : Type 1} → statement M
+transverse-misfit-spec = tie.close (tie.spec within-requires field-requires returns)

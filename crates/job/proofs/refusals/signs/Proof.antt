@@ -1,0 +1,36 @@
+use mathlib.Core.Path.{sym, _∙_, ap}
+use native.Mathlib.Omega.{arith}
+use lib.ListN.{length}
+use Rattle.model.specs.Fields.{moved, misfit}
+use Rattle.model.specs.Format.{start, sectionOf}
+use Rattle.model.specs.Refusals.{signs, fault5}
+use Rattle.model.specs.declared.Header.{Header}
+use Rattle.model.specs.declared.Part.the-variants.{Line}
+use Rattle.model.proofs.Fits.{below}
+use Rattle.job.proofs.Sizes.{counts, part-length, few-words}
+use Rattle.job.proofs.refusals.signs.Statement.{statement}
+use Rattle.job.proofs.refusals.signs.Tie as tie
+
+section-requires : tie.Need-section-requires
+section-requires c κs = c .before .pre
+
+crossing-requires : tie.Need-crossing-requires
+crossing-requires c κs =
+    let st = c .before .before in
+    omega (arith, ap length (c .section .ensures), part-length (st .pre) Line, ap (λ (h : Header). h .pieces) (st .pre .own))
+
+in-job-requires : tie.Need-in-job-requires
+in-job-requires c κs =
+    let st = c .before .before .before in
+    (counts (st .pre), λ p e. few-words (st .args .head) Line (counts (st .pre)) (below (signs (st .args .head .pieces)) _ p (sym (c .crossing .ensures) ∙ e)))
+
+returns : tie.Need-returns
+unfolding fault5
+returns c =
+    let st = c .before .before .before .before in
+    c .in-job .ensures
+    ∙ ap (moved (start (st .args .head) Line)) (c .before .crossing .ensures ∙ ap (misfit (signs (st .args .head .pieces))) (c .before .before .section .ensures))
+    ∙ ap (λ (h : Header). moved (start h Line) (misfit (signs (h .pieces)) (sectionOf (st .args .s .now) Line))) (st .pre .own)
+
+pub signs-spec : {M : Type 1} → statement M
+signs-spec = tie.close (tie.spec section-requires crossing-requires in-job-requires returns)

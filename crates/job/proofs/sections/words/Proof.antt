@@ -1,0 +1,22 @@
+use borrow.Author.Needs.{needs}
+use mathlib.Core.Path.{ap₂}
+use Prim.Native.Nat.{_*_}
+use native.Mathlib.Omega.{arith}
+use Rattle.job.proofs.Sizes.{product}
+use Rattle.job.proofs.sections.words.Statement.{statement}
+use Rattle.job.proofs.sections.words.Tie as tie
+
+item-words-requires : tie.Need-item-words-requires
+item-words-requires c κs = search needs
+
+items-requires : tie.Need-items-requires
+items-requires c κs = search needs
+
+mul-result : tie.Need-mul-result
+mul-result c = omega (arith, product (c .before .item-words .ensures .1) (c .items .ensures .1))
+
+returns : tie.Need-returns
+returns c = (ap₂ _*_ (c .before .item-words .ensures .0) (c .items .ensures .0), product (c .before .item-words .ensures .1) (c .items .ensures .1))
+
+pub words-spec : {M : Type 1} → statement M
+words-spec = tie.close (tie.spec item-words-requires items-requires mul-result returns)
