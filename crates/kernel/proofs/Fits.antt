@@ -5,17 +5,21 @@ use mathlib.Core.Logic.{inl, inr}
 use mathlib.Core.List.{List, [], _∷_}
 use Prim.Native.Nat.{ℕ, _*_, _≤_, _<_}
 use native.Mathlib.Omega.{arith}
-use Rattle.model.specs.Sections.{lineSection, transverseSection, effectSection, rowSection, recordSection}
 use lib.IntN.{ℤ, pos}
 use Rattle.model.specs.Job.{Live, Limit}
 use Rattle.model.specs.Decode.{decode, effectAt, rowAt}
 use Rattle.model.specs.declared.State.{State}
 use Rattle.model.specs.Dynamic.{dynamicFactor}
-use Rattle.model.specs.Refusals.{dynamicFits}
-use Rattle.model.proofs.Accepted.{OneOf, Clear, clear, HeaderFits, header-fits, line-within, transverse-within, dynamic-range, OneSigned, accepted-signed, accepted-spaced}
-use Rattle.job.specs.Header.{headerOf, Sized}
-use Rattle.job.specs.declared.header.Header.{Header}
-use Rattle.job.proofs.Starts.{line-length, transverse-length}
+use Rattle.model.specs.Format.{headerOf, dynamicFits, sectionOf}
+use Rattle.model.specs.declared.Header.{Header}
+use Rattle.model.specs.declared.Part.the-variants.{Line, Transverse, Effects, Rows, Records}
+use Rattle.model.proofs.Counts.{OneOf}
+use Rattle.model.proofs.Verdict.{Clear, clear}
+use Rattle.model.proofs.HeaderLimits.{HeaderFits, header-fits, dynamic-range}
+use Rattle.model.proofs.LineLimits.{line-within, transverse-within, OneSigned}
+use Rattle.model.proofs.Accepted.{accepted-signed, accepted-spaced}
+use Rattle.job.specs.Sized.{Sized}
+use Rattle.job.proofs.Sizes.{part-length}
 use Rattle.job.proofs.Rulings.{is-sized}
 use Rattle.line.specs.Fits.{LineFits}
 use Rattle.lanes.specs.Fits.{AcrossFits}
@@ -34,8 +38,8 @@ length-range h (inr (inr (inr (inr (inl e))))) = omega arith
 length-range h (inr (inr (inr (inr (inr (inl e)))))) = omega arith
 
 module _ {b : List ℕ} {head : Header} (ready : Ready b head) where
-  c : Clear b (ready .patch)
-  c = clear b (ready .patch) (ready .accepted)
+  c : Clear b
+  c = clear b (ready .accepted)
 
   header : HeaderFits b
   header = header-fits b (c .c2)
@@ -47,20 +51,20 @@ module _ {b : List ℕ} {head : Header} (ready : Ready b head) where
   pub sized : Sized b head
   sized = is-sized b (ready .own) (c .c1) (c .c2) (c .c3)
 
-  pub line-fits : LineFits (lineSection b) (head .pieces)
+  pub line-fits : LineFits (sectionOf b Line) (head .pieces)
   line-fits =
-      let e = line-length b sized in
-      own (λ h. LineFits (lineSection b) (h .pieces)) (record { room = omega arith; few = header .pieces .most; near = line-within b (c .c4) })
+      let e = part-length sized Line in
+      own (λ h. LineFits (sectionOf b Line) (h .pieces)) (record { room = omega arith; few = header .pieces .most; near = line-within b (c .c4) })
 
   pub line-limits : (1 ≤ head .h) × ((head .h ≤ 50) × (head .pieces * head .h ≤ 1000))
   line-limits =
       let l = length-range _ (header .length) in
       own (λ h. (1 ≤ h .h) × ((h .h ≤ 50) × (h .pieces * h .h ≤ 1000))) (l .0, (l .1, header .reach))
 
-  pub across-fits : AcrossFits (transverseSection b) (head .width) (head .spacing)
+  pub across-fits : AcrossFits (sectionOf b Transverse) (head .width) (head .spacing)
   across-fits =
-      let e = transverse-length b sized in
-      own (λ h. AcrossFits (transverseSection b) (h .width) (h .spacing))
+      let e = part-length sized Transverse in
+      own (λ h. AcrossFits (sectionOf b Transverse) (h .width) (h .spacing))
       (record {
         wide = header .wide .least;
         narrow = header .wide .most;
@@ -70,8 +74,8 @@ module _ {b : List ℕ} {head : Header} (ready : Ready b head) where
         near = λ k h. transverse-within b (c .c4) k (omega arith);
       })
 
-  pub tables : TablesFit (effectSection b) (rowSection b) (recordSection b) (head .rows) (head .records)
-  tables = own (λ h. TablesFit (effectSection b) (rowSection b) (recordSection b) (h .rows) (h .records)) (tables-fit b (ready .patch) (ready .accepted))
+  pub tables : TablesFit (sectionOf b Effects) (sectionOf b Rows) (sectionOf b Records) (head .rows) (head .records)
+  tables = own (λ h. TablesFit (sectionOf b Effects) (sectionOf b Rows) (sectionOf b Records) (h .rows) (h .records)) (tables-fit b (ready .accepted))
 
   pub width-limits : (300 ≤ head .width) × (head .width ≤ 2079)
   width-limits = (across-fits .wide, across-fits .narrow)
@@ -85,13 +89,13 @@ module _ {b : List ℕ} {head : Header} (ready : Ready b head) where
   dynamic = own (λ h. (1000 ≤ dynamicFactor (h .kind) (h .value)) × (dynamicFactor (h .kind) (h .value) ≤ 1300)) (dynamic-range _ _ (header .dynamic))
 
   pub signed : OneSigned (decode b .line)
-  signed = accepted-signed b (ready .patch) (ready .accepted)
+  signed = accepted-signed b (ready .accepted)
 
   pub spaced : 0 < decode b .deck .g
-  spaced = accepted-spaced b (ready .patch) (ready .accepted)
+  spaced = accepted-spaced b (ready .accepted)
 
   -- the three sections as they were found
-  module _ {e r s : List ℕ} (p : e ≡ effectSection b) (q : r ≡ rowSection b) (t : s ≡ recordSection b) where
+  module _ {e r s : List ℕ} (p : e ≡ sectionOf b Effects) (q : r ≡ sectionOf b Rows) (t : s ≡ sectionOf b Records) where
     pub tables-found : TablesFit e r s (head .rows) (head .records)
     tables-found = rw (p, q, t) tables
 
@@ -100,7 +104,7 @@ module _ {b : List ℕ} {head : Header} (ready : Ready b head) where
         StateFound (decode b .effect) (decode b .row) most least limit (decode b .rows) x
     unfolding decode
     state-found most least limit x f =
-        subst (λ (h : Header). StateFound (effectAt (effectSection b)) (rowAt (rowSection b) (recordSection b) (h .records)) most least limit (h .rows) x) (ready .own)
-        (subst (λ (l : List ℕ). StateFound (effectAt l) (rowAt (rowSection b) (recordSection b) (head .records)) most least limit (head .rows) x) p
-        (subst (λ (l : List ℕ). StateFound (effectAt e) (rowAt l (recordSection b) (head .records)) most least limit (head .rows) x) q
+        subst (λ (h : Header). StateFound (effectAt (sectionOf b Effects)) (rowAt (sectionOf b Rows) (sectionOf b Records) (h .records)) most least limit (h .rows) x) (ready .own)
+        (subst (λ (l : List ℕ). StateFound (effectAt l) (rowAt (sectionOf b Rows) (sectionOf b Records) (head .records)) most least limit (head .rows) x) p
+        (subst (λ (l : List ℕ). StateFound (effectAt e) (rowAt l (sectionOf b Records) (head .records)) most least limit (head .rows) x) q
         (subst (λ (l : List ℕ). StateFound (effectAt e) (rowAt r l (head .records)) most least limit (head .rows) x) t f)))

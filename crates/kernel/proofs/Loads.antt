@@ -17,11 +17,12 @@ use Rattle.model.specs.Decode.{decode, carriageway}
 use Rattle.model.specs.Dynamic.{dynamicFactor}
 use Rattle.model.specs.Lanes.{laneCount}
 use Rattle.model.specs.Line.{Kind, HN, HO, axle, lineEffect}
-use Rattle.model.specs.Sections.{transverseSection}
+use Rattle.model.specs.Format.{sectionOf}
+use Rattle.model.specs.declared.Header.{Header}
+use Rattle.model.specs.declared.Part.the-variants.{Transverse}
 use Rattle.model.specs.declared.Sense.the-variants.{Raising, Lowering}
 use Rattle.model.specs.declared.Extreme.{Extreme}
 use Rattle.model.proofs.Signs.{line-zero}
-use Rattle.job.specs.declared.header.Header.{Header}
 use Rattle.line.specs.Sought.{SoughtRight, EffectRight}
 use Rattle.line.specs.declared.effect.Sought.{Sought}
 use Rattle.lanes.specs.Spans.{SpanRight, noSpan}
@@ -66,7 +67,7 @@ pub wider : {m n : ℕ} {e : Effects} → m ≤ n → EffectsFit m e → Effects
 wider h f = record { up = f .up; down = f .down; raising = within-le (f .raising) h; lowering = within-le (f .lowering) h }
 
 -- the spans as they were found
-module _ {b : List ℕ} {head : Header} (ready : Ready b head) {across : List ℕ} (found : across ≡ transverseSection b) (spans : List Span) {n d : ℕ}
+module _ {b : List ℕ} {head : Header} (ready : Ready b head) {across : List ℕ} (found : across ≡ sectionOf b Transverse) (spans : List Span) {n d : ℕ}
     (count : (n ≡ laneCount (head .width)) × ((1 ≤ n) × (n ≤ 5))) (factor : d ≡ dynamicFactor (head .kind) (head .value))
     (each : (i : ℕ) → i < n → SpanRight (carriageway across (head .width) (head .spacing)) i (getD spans i noSpan)) where
   pub traffic-fits : TrafficFits spans n (head .spacing) d
@@ -91,7 +92,7 @@ module _ {b : List ℕ} {head : Header} (ready : Ready b head) {across : List �
         lanes = own (λ h. n ≡ laneCount (h .width)) (count .0);
         spacing = own (λ h. head .spacing ≡ h .spacing) refl;
         each = λ i h.
-            own (λ h. SpanRight (carriageway (transverseSection b) (h .width) (h .spacing)) i (getD spans i noSpan))
+            own (λ h. SpanRight (carriageway (sectionOf b Transverse) (h .width) (h .spacing)) i (getD spans i noSpan))
             (subst (λ (l : List ℕ). SpanRight (carriageway l (head .width) (head .spacing)) i (getD spans i noSpan)) found (each i h));
       }
 

@@ -15,7 +15,7 @@ use Rattle.model.specs.declared.Sense.the-variants.{Raising, Lowering}
 use Rattle.model.specs.declared.Extreme.{Extreme}
 use Rattle.model.specs.declared.State.{State}
 use Rattle.model.specs.declared.Account.{Account}
-use Rattle.model.proofs.Accepted.{OneSigned}
+use Rattle.model.proofs.LineLimits.{OneSigned}
 use Rattle.model.proofs.Unbeaten.{unbeaten}
 use Rattle.model.proofs.Signs.{no-traffic}
 use Rattle.model.proofs.Attained.{reported-lawful, reported-gives}

@@ -8,29 +8,28 @@ use Rattle.exact.specs.declared.Question.{Question}
 use Rattle.exact.specs.declared.Question.the-variants.{Greatest, Least}
 use Rattle.model.specs.Job.{Job, Limit, service, ultimate, Live, normal, overload}
 use Rattle.model.specs.Line.{Kind, HO, lineEffect}
-use Rattle.model.specs.Refusals.{verdict}
+use Rattle.model.specs.Format.{headerOf}
+use Rattle.model.specs.Refusals.{jobVerdict}
 use Rattle.model.specs.Traffic.{lanes, bestSum, trafficValue}
 use Rattle.model.specs.Arrangements.{OverloadLanes}
 use Rattle.model.specs.Answered.{laneAt, setOf, extremeOf, PositionRight}
 use Rattle.model.specs.Placements.{EntryRight, placedLanes, placedSum}
 use Rattle.model.specs.declared.Sense.the-variants.{Raising, Lowering}
 use Rattle.model.specs.declared.Entry.the-variants.{Unloaded}
+use Rattle.model.specs.declared.Header.{Header}
 use Rattle.model.specs.declared.Extreme.{Extreme}
 use Rattle.model.specs.declared.Traffic.{Traffic}
 use Rattle.model.specs.declared.State.{State}
 use Rattle.model.specs.declared.Account.{Account}
-use Rattle.job.specs.Header.{headerOf}
-use Rattle.job.specs.declared.header.Header.{Header}
 use Rattle.lanes.specs.declared.traffic.Effects.{Effects}
 use Rattle.rows.specs.Governed.{trafficOf, StateFound}
 use Rattle.rows.specs.declared.state.Live.{Live as Pair}
 use Rattle.kernel.specs.declared.TrafficValues.{TrafficValues}
 
--- the job is accepted with a patch buffer of some length, and the header is its own
+-- the job is accepted, and the header is its own
 pub record Ready (b : List ℕ) (head : Header) : Type 0 where
   pub own : head ≡ headerOf b
-  pub patch : ℕ
-  pub accepted : verdict b patch ≡ none
+  pub accepted : jobVerdict b ≡ none
 
 -- a kind's line effects
 abbrev pub effectsOf : Job → Kind → Effects

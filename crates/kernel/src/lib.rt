@@ -1,7 +1,6 @@
 // From a job's bytes to its account.
 use exact::Question;
 use job::header;
-use job::header::Header;
 use job::refusals;
 use job::sections;
 use lanes::centres;
@@ -19,7 +18,9 @@ use model::Account;
 use model::Answer;
 use model::Entry;
 use model::Extreme;
+use model::Header;
 use model::Lane;
+use model::Part;
 use model::Placement;
 use model::Position;
 use model::Sense;
@@ -87,7 +88,7 @@ fn sought(job: &[u8], head: Header) -> Senses
     requires { ⌜ Ready (now job) head ⌝ }
     ensures { λ r. ⌜ SensesRight (decode (now (job .entry)) .line) r ⌝ }
 {
-    effect::seek(sections::line(job, head), head.h, head.pieces)
+    effect::seek(sections::section(job, head, Part::Line), head.h, head.pieces)
 }
 
 // The traffic values of both live kinds, and the number of lanes.
@@ -114,7 +115,7 @@ fn values(job: &[u8], head: Header, raising: Sought, lowering: Sought) -> Traffi
     let n = count::lane_count(head.width);
     let g = head.spacing;
     let d = dynamic::factor(head.kind, head.value);
-    let spans = centres::spans(sections::transverse(job, head), head.width, n, g);
+    let spans = centres::spans(sections::section(job, head, Part::Transverse), head.width, n, g);
     let ng = traffic::normal(Question::Greatest, spans, n, g, d, hn);
     let nl = traffic::normal(Question::Least, spans, n, g, d, hn);
     let og = traffic::overload(Question::Greatest, spans, n, g, d, hn, ho);
@@ -139,9 +140,9 @@ fn limit_state(job: &[u8], head: Header, most: Live, least: Live, limit: usize) 
     requires { ⌜ Ready (now job) head × LiveFits most × LiveFits least × (1 ≤ limit) × (limit ≤ 2) ⌝ }
     ensures { λ r. ⌜ StateFound (decode (now (job .entry)) .effect) (decode (now (job .entry)) .row) (trafficOf most) (trafficOf least) (limitOf limit) (decode (now (job .entry)) .rows) r ⌝ }
 {
-    let effects = sections::effects(job, head);
-    let rows = sections::rows(job, head);
-    let records = sections::records(job, head);
+    let effects = sections::section(job, head, Part::Effects);
+    let rows = sections::section(job, head, Part::Rows);
+    let records = sections::section(job, head, Part::Records);
     state::state(
         effects,
         rows,
@@ -154,8 +155,8 @@ fn limit_state(job: &[u8], head: Header, most: Live, least: Live, limit: usize) 
     )
 }
 
-// The account of an accepted job.
-fn account(job: &[u8], head: Header) -> Account
+// The account of an accepted job; the patch bytes that its placements go with are not in it.
+pub fn account(job: &[u8], head: Header) -> Account
     requires { ⌜ Ready (now job) head ⌝ }
     ensures { λ r. ⌜ PartsRight (decode (now (job .entry))) r ⌝ }
 {
@@ -196,13 +197,16 @@ fn account(job: &[u8], head: Header) -> Account
 pub fn solve(job: &[u8], patch: &mut [u8]) -> Answer
     ensures { λ r. ⌜ Answered (now (job .entry)) (now (patch .entry)) r (now (patch .exit)) ⌝ }
 {
-    let v = refusals::verdict(job, patch.len());
+    let v = refusals::verdict(job);
     if v.number != 0 {
         return refused(v.number, v.place);
     }
     let head = header::read(job);
+    if patch.len() < head.pieces {
+        return refused(9, head.pieces);
+    }
     let a = account(job, head);
-    pieces::mark(sections::line(job, head), head.pieces, patch);
+    pieces::mark(sections::section(job, head, Part::Line), head.pieces, patch);
     Answer {
         refusal: 0,
         place: 0,

@@ -11,7 +11,7 @@ use Rattle.exact.specs.declared.Question.{Question}
 use Rattle.exact.proofs.Extremes.{no-better-antisym, extreme-bounds}
 use Rattle.model.specs.Decode.{carriageway}
 use Rattle.model.specs.Lanes.{laneCount, lowest, highest, transverseAt, bestOrdinate}
-use Rattle.model.specs.Sections.{spaces}
+use Rattle.model.specs.Format.{spaces}
 use Rattle.model.proofs.Lanes.{lane-count, lane-room}
 use Rattle.model.proofs.Centre.{ordinate-bound}
 use Rattle.lanes.specs.Fits.{AcrossFits, OrdinatesTo}

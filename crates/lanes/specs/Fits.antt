@@ -4,7 +4,7 @@ use mathlib.Core.List.{List}
 use lib.ListN.{length}
 use Rattle.exact.specs.Bounds.{Within}
 use Rattle.model.specs.Words.{wordAt}
-use Rattle.model.specs.Sections.{spaces}
+use Rattle.model.specs.Format.{spaces}
 
 -- width and spacing are within their limits, and the section has its M + 1 ordinates, each of at most 1000
 pub record AcrossFits (s : List ℕ) (w g : ℕ) : Type 0 where

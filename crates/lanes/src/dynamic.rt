@@ -4,7 +4,7 @@ ghost use mathlib.Core.Bool.{true};
 ghost use Prim.Native.Nat.{_≤_};
 ghost use lib.IntN.{pos};
 ghost use Rattle.model.specs.Dynamic.{dynamicFactor};
-ghost use Rattle.model.specs.Refusals.{dynamicFits};
+ghost use Rattle.model.specs.Format.{dynamicFits};
 
 // Of the kind: 1, read off by the sender; 2, below ground; else a culvert top slab under so much fill in cm.
 pub fn factor(kind: usize, value: usize) -> usize

@@ -3,11 +3,11 @@ use mathlib.Core.Path.{_≡_, refl, _∙_, ap}
 use mathlib.Core.Bool.{Bool, true, false, _&&_, and-eq-true-iff}
 use mathlib.Core.Option.{Option, none, some, Option·some-ne-none}
 use mathlib.Core.List.{List, [], _∷_}
-use Prim.Native.Nat.{ℕ, zero, suc, _+_, _*_, _/_, _%_, _≤_}
+use Prim.Native.Nat.{ℕ, zero, suc, _+_, _*_, _/_, _%_, _≤_, _<_}
 use native.Mathlib.Omega.{arith}
 use lib.Dec.{eqb, leb}
 use lib.ListN.{length, getD}
-use borrow.Author.Tests.{eqb-true, leb-true}
+use borrow.Author.Tests.{eqb-true, leb-true, le-leb, lt-leb}
 use Rattle.exact.specs.Choice.{orElse}
 use Rattle.model.specs.Words.{wordAt}
 use Rattle.model.specs.Format.{headerOf, is, words, start, wordsDue}
@@ -75,15 +75,28 @@ part-inside b e Rows = omega arith
 part-inside b e Records = omega arith
 
 -- ---- 9: the patch buffer holds a byte a piece
-pub patch-fits : (b : List ℕ) (patch : ℕ) → fault9 b patch ≡ none → headerOf b .pieces ≤ patch
-unfolding fault9
-patch-fits b patch e = leb-true (headerOf b .pieces) patch (unless-none _ (headerOf b .pieces) e)
+module _ (b : List ℕ) (patch : ℕ) where
+  -- a job's own refusal is the call's
+  pub job-refuses : {r : Refusal} → jobVerdict b ≡ some r → verdict b patch ≡ some r
+  unfolding verdict
+  job-refuses e = ap (λ v. orElse v (firstRefusal ((9 finds fault9 b patch) ∷ []))) e
 
--- a job accepted with a patch buffer is accepted without one, and the buffer is long enough
-pub both-accept : (b : List ℕ) (patch : ℕ) → verdict b patch ≡ none → (jobVerdict b ≡ none) × (headerOf b .pieces ≤ patch)
-unfolding verdict
-both-accept b patch e = go (jobVerdict b) e
-  where
-    go : (v : Option Refusal) → orElse v (firstRefusal ((9 finds fault9 b patch) ∷ [])) ≡ none → (v ≡ none) × (headerOf b .pieces ≤ patch)
-    go none f = (refl, patch-fits b patch (refuse-none 9 (fault9 b patch) none f .0))
-    go (some r) f = absurd (Option·some-ne-none _ f)
+  module _ (accepted : jobVerdict b ≡ none) where
+    -- a buffer that is too short is refused
+    pub short-refused : patch < headerOf b .pieces → verdict b patch ≡ some (record { number = 9; place = headerOf b .pieces })
+    unfolding verdict fault9
+    short-refused h = ap (λ v. orElse v (firstRefusal ((9 finds fault9 b patch) ∷ []))) accepted ∙ ap (λ t. refuse 9 (unless t (headerOf b .pieces)) none) (lt-leb (headerOf b .pieces) patch h)
+
+    -- and one that is not is accepted with the job
+    pub long-accepted : headerOf b .pieces ≤ patch → verdict b patch ≡ none
+    unfolding verdict fault9
+    long-accepted h = ap (λ v. orElse v (firstRefusal ((9 finds fault9 b patch) ∷ []))) accepted ∙ ap (λ t. refuse 9 (unless t (headerOf b .pieces)) none) (le-leb (headerOf b .pieces) patch h)
+
+  -- so the call accepts only what the job's verdict accepts
+  pub job-accepted : verdict b patch ≡ none → jobVerdict b ≡ none
+  unfolding verdict
+  job-accepted e = go (jobVerdict b) e
+    where
+      go : (v : Option Refusal) → orElse v (firstRefusal ((9 finds fault9 b patch) ∷ [])) ≡ none → v ≡ none
+      go none f = refl
+      go (some r) f = absurd (Option·some-ne-none _ f)

@@ -16,7 +16,7 @@ use Rattle.model.specs.declared.Account.{Account}
 use Rattle.model.specs.declared.Governing.{Governing}
 use Rattle.model.specs.declared.State.{State}
 use Rattle.model.specs.declared.State.the-variants.{Absent, Reported}
-use Rattle.model.proofs.Accepted.{OneSigned}
+use Rattle.model.proofs.LineLimits.{OneSigned}
 use Rattle.model.proofs.States.{no-row, governing-row, unbeaten-unladen, unbeaten-laden}
 use Rattle.model.proofs.Attained.{counted-given}
 use Rattle.rows.specs.Governed.{governs, governed, StateRow, StateFound}

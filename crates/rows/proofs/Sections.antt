@@ -5,59 +5,54 @@ use mathlib.Core.List.{List}
 use Prim.Native.Nat.{ℕ, _+_, _-_, _*_, _≤_}
 use native.Mathlib.Omega.{arith}
 use lib.ListN.{length}
-use Rattle.model.specs.Sections.{effectCount, rowCount, recordCount, wordsDue, effectWords, rowWords, recordWords, effectsStart, rowsStart, recordsStart, effectSection, rowSection, recordSection}
+use Rattle.model.specs.Format.{headerOf, wordsDue, words, sectionOf}
 use Rattle.model.specs.Decode.{firstRecord}
-use Rattle.model.specs.Refusals.{verdict, chainReturns, chainNamesTwice}
-use Rattle.model.proofs.Accepted.{Clear, clear, section-length, size-fits, header-fits, effect-fits, row-fits, record-fits, chain-clear}
+use Rattle.model.specs.Refusals.{jobVerdict, chainReturns, chainNamesTwice}
+use Rattle.model.specs.declared.Part.{Part}
+use Rattle.model.specs.declared.Part.the-variants.{Effects, Rows, Records}
+use Rattle.model.proofs.Sections.{section-length}
+use Rattle.model.proofs.Verdict.{Clear, clear, size-fits, part-inside}
+use Rattle.model.proofs.HeaderLimits.{header-fits}
+use Rattle.model.proofs.TableLimits.{effect-fits, row-fits, record-fits, no-return, no-repeat}
 use Rattle.rows.specs.Tables.{EffectsFit, RecordsFit, RowFits, TablesFit}
 use Rattle.rows.proofs.Terms.{distinct-terms}
 
-module _ (b : List ℕ) (patch : ℕ) (accepted : verdict b patch ≡ none) where
-  c : Clear b patch
-  c = clear b patch accepted
+module _ (b : List ℕ) (accepted : jobVerdict b ≡ none) where
+  c : Clear b
+  c = clear b accepted
 
-  size : length b ≡ 4 * wordsDue b
-  size = size-fits b (c .c1) (c .c3) .due
+  long : (part : Part) → length (sectionOf b part) ≡ 4 * words (headerOf b) part
+  long part = section-length b (headerOf b) part (part-inside b (size-fits b (c .c1) (c .c3)) part)
 
-  effects-long : length (effectSection b) ≡ 8 * effectCount b
-  effects-long = let e = section-length b (effectsStart b) (effectWords b) (omega (arith, size)) in omega arith
+  effects : EffectsFit (sectionOf b Effects)
+  effects e h k = effect-fits b (c .c6) (e - 1) (omega (arith, long Effects)) .value
 
-  rows-long : length (rowSection b) ≡ 16 * rowCount b
-  rows-long = let e = section-length b (rowsStart b) (rowWords b) (omega (arith, size)) in omega arith
-
-  records-long : length (recordSection b) ≡ 12 * recordCount b
-  records-long = let e = section-length b (recordsStart b) (recordWords b) (omega (arith, size)) in omega arith
-
-  effects : EffectsFit (effectSection b)
-  effects e h k = effect-fits b (c .c6) (e - 1) (omega (arith, effects-long)) .value
-
-  records : RecordsFit (effectSection b) (recordSection b)
+  records : RecordsFit (sectionOf b Effects) (sectionOf b Records)
   records r h k =
-      let f = record-fits b (c .c6) (r - 1) (omega (arith, records-long)) in
+      let f = record-fits b (c .c6) (r - 1) (omega (arith, long Records)) in
       let most = header-fits b (c .c2) .effects .most in
       record {
         effect = f .effect .least;
         most = omega (arith, f .effect .most);
-        there = omega (arith, f .effect .most, effects-long);
+        there = omega (arith, f .effect .most, long Effects);
         factor = f .factor .most;
-        next = omega (arith, f .next .most, records-long);
+        next = omega (arith, f .next .most, long Records);
       }
 
-  rows : (r : ℕ) → 1 ≤ r → r ≤ rowCount b → RowFits (recordSection b) (recordCount b) (rowSection b) r
+  rows : (r : ℕ) → 1 ≤ r → r ≤ headerOf b .rows → RowFits (sectionOf b Records) (headerOf b .records) (sectionOf b Rows) r
   rows r h k =
       let f = row-fits b (c .c6) (r - 1) (omega arith) in
       let same : r - 1 + 1 ≡ r = omega arith in
-      let chain = chain-clear b (c .c7) (c .c8) (r - 1) (omega arith) in
       record {
         limit = (f .limit .least, f .limit .most);
         live = f .live .most;
         factor = f .factor .most;
-        first = omega (arith, f .first .most, records-long);
+        first = omega (arith, f .first .most, long Records);
         distinct =
-            distinct-terms (recordSection b) (recordCount b) (firstRecord (rowSection b) r)
+            distinct-terms (sectionOf b Records) (headerOf b .records) (firstRecord (sectionOf b Rows) r)
             (record { first = f .first .most; next = λ n l m. record-fits b (c .c6) (n - 1) (omega arith) .next .most })
-            (ap (chainReturns b) (sym same) ∙ chain .0) (ap (chainNamesTwice b) (sym same) ∙ chain .1);
+            (ap (chainReturns b) (sym same) ∙ no-return b (c .c7) (r - 1) (omega arith)) (ap (chainNamesTwice b) (sym same) ∙ no-repeat b (c .c7) (r - 1) (omega arith) (c .c8));
       }
 
-  pub tables-fit : TablesFit (effectSection b) (rowSection b) (recordSection b) (rowCount b) (recordCount b)
-  tables-fit = record { effects = effects; records = records; most = header-fits b (c .c2) .records .most; long = omega (arith, rows-long); rows = rows }
+  pub tables-fit : TablesFit (sectionOf b Effects) (sectionOf b Rows) (sectionOf b Records) (headerOf b .rows) (headerOf b .records)
+  tables-fit = record { effects = effects; records = records; most = header-fits b (c .c2) .records .most; long = omega (arith, long Rows); rows = rows }

@@ -4,26 +4,26 @@ use Rattle.kernel.proofs.Fits.{sized, tables-found, state-found}
 use Rattle.kernel.proofs.limit_state.Statement.{statement}
 use Rattle.kernel.proofs.limit_state.Tie as tie
 
-effects-requires : tie.Need-effects-requires
-effects-requires c κs = sized (c .before .pre .0)
+section-requires : tie.Need-section-requires
+section-requires c κs = sized (c .before .pre .0)
 
-rows-requires : tie.Need-rows-requires
-rows-requires c κs = sized (c .before .before .pre .0)
+section-requires-2 : tie.Need-section-requires-2
+section-requires-2 c κs = sized (c .before .before .pre .0)
 
-records-requires : tie.Need-records-requires
-records-requires c κs = sized (c .before .before .before .pre .0)
+section-requires-3 : tie.Need-section-requires-3
+section-requires-3 c κs = sized (c .before .before .before .pre .0)
 
 state-requires : tie.Need-state-requires
 state-requires c κs =
     let s = c .before .before .before .before in
-    (tables-found (s .pre .0) (c .before .before .effects .ensures) (c .before .rows .ensures) (c .records .ensures), s .pre .1, s .pre .2, s .pre .3, s .pre .4)
+    (tables-found (s .pre .0) (c .before .before .section .ensures) (c .before .section2 .ensures) (c .section3 .ensures), s .pre .1, s .pre .2, s .pre .3, s .pre .4)
 
 returns : tie.Need-returns
 returns c =
     let s = c .before .before .before .before .before in
     let a = s .args in
-    state-found (s .pre .0) (c .before .before .before .effects .ensures) (c .before .before .rows .ensures) (c .before .records .ensures) (trafficOf (a .most)) (trafficOf (a .least)) (limitOf (a .limit)) (c .state .result) (c .state .ensures)
+    state-found (s .pre .0) (c .before .before .before .section .ensures) (c .before .before .section2 .ensures) (c .before .section3 .ensures) (trafficOf (a .most)) (trafficOf (a .least)) (limitOf (a .limit)) (c .state .result) (c .state .ensures)
 
 pub limit-state-spec : {M : Type 1} → statement M
 limit-state-spec =
-    tie.close (tie.spec effects-requires rows-requires records-requires state-requires returns)
+    tie.close (tie.spec section-requires section-requires-2 section-requires-3 state-requires returns)

@@ -8,18 +8,19 @@ use borrow.Author.Tests.{ne-eqb, eq-eqb}
 use lib.Dec.{eqb}
 use lib.ListN.{length, drop}
 use Rattle.exact.specs.Choice.{if_then_else_}
+use Rattle.model.specs.Format.{headerOf, sectionOf}
 use Rattle.model.specs.Decode.{decode, influenceLine}
 use Rattle.model.specs.Line.{patchBytes}
-use Rattle.model.specs.Sections.{lineSection, pieceLength, pieceCount}
 use Rattle.model.specs.Refusals.{Refusal, verdict}
-use Rattle.model.specs.Answered.{Answered, refused, accepted, AccountRight}
-use Rattle.model.proofs.Accepted.{clear, patch-fits}
-use Rattle.job.specs.declared.header.Header.{Header}
+use Rattle.model.specs.Answered.{Answered, refused, refusalAnswer, accepted, AccountRight}
+use Rattle.model.specs.declared.Account.{Account}
+use Rattle.model.specs.declared.Answer.{Answer}
+use Rattle.model.specs.declared.Header.{Header}
+use Rattle.model.specs.declared.Part.the-variants.{Line}
+use Rattle.model.proofs.Verdict.{clear, has-header, job-refuses, short-refused, long-accepted}
 use Rattle.job.specs.declared.refusals.Ruling.{Ruling}
-use Rattle.job.proofs.Rulings.{has-header}
 use Rattle.line.specs.Fits.{LineFits}
 use Rattle.line.proofs.Fitting.{fits-fewer}
-use Rattle.model.specs.declared.Account.{Account}
 use Rattle.kernel.specs.Parts.{Ready, PartsRight}
 use Rattle.kernel.proofs.Fits.{sized, line-fits, signed, spaced}
 use Rattle.kernel.proofs.Right.{account-right}
@@ -43,57 +44,68 @@ refused-requires c κs = search needs
 
 returns : tie.Need-returns
 returns c =
-    let s = c .before .before .before .before .before .before in
     let v = c .before .before .before .verdict in
-    refused _ (is-refused (v .result) (c .before .if1 .taken) (v .ensures .says)) (c .refused .ensures) refl
+    refused _ (job-refuses _ _ (is-refused (v .result) (c .before .if1 .taken) (v .ensures .says))) (c .refused .ensures) refl
 
-abbrev ready : (c : tie.After-read) → Ready (c .before .before .before .before .before .before .args .job .now) (c .read .result)
-ready c = record {
-  own = c .read .ensures;
-  patch = length (c .before .before .before .before .before .before .args .patch .now);
-  accepted = is-accepted (c .before .before .before .verdict .result) (c .before .if1 .left) (c .before .before .before .verdict .ensures .says);
-}
+read-requires : tie.Need-read-requires
+read-requires c κs = let v = c .before .before .verdict in has-header _ (clear _ (is-accepted (v .result) (c .if1 .left) (v .ensures .says)) .c1)
+
+-- from the header on
+module _ (c : tie.After-read) where
+  abbrev st : tie.Start
+  st = c .before .before .before .before .before .before
+
+  ready : Ready (st .args .job .now) (c .read .result)
+  ready = let v = c .before .before .before .verdict in record { own = c .read .ensures; accepted = is-accepted (v .result) (c .before .if1 .left) (v .ensures .says) }
+
+  pieces : c .read .result .pieces ≡ headerOf (st .args .job .now) .pieces
+  pieces = ap (λ (h : Header). h .pieces) (c .read .ensures)
+
+refused-requires-2 : tie.Need-refused-requires-2
+refused-requires-2 c κs = search needs
+
+returns-2 : tie.Need-returns-2
+returns-2 c =
+    let d = c .before .before .before in
+    refused _ (short-refused _ _ (ready d .accepted) (omega (arith, pieces d, c .before .if2 .taken))) (c .refused2 .ensures ∙ ap (λ n. refusalAnswer (record { number = 9; place = n })) (pieces d)) refl
 
 -- the account with its patch bytes written is the whole answer
-answers : {b before after line : List ℕ} {head : Header} (r : Ready b head) → line ≡ lineSection b → after ≡ patchBytes (influenceLine line (pieceLength b) (head .pieces)) ++ drop (head .pieces) before →
+answers : {b before after line : List ℕ} {head : Header} (r : Ready b head) → line ≡ sectionOf b Line → after ≡ patchBytes (influenceLine line (headerOf b .h) (head .pieces)) ++ drop (head .pieces) before →
     (a : Account) → PartsRight (decode b) a → verdict b (length before) ≡ none → Answered b before (record { refusal = 0; place = 0; account = a }) after
 unfolding decode
 answers {b} {before} {after} {line} {head} r l m a p v =
-    let marked : after ≡ patchBytes (decode b .line) ++ drop (pieceCount b) before =
-    subst (λ (h : Header). after ≡ patchBytes (influenceLine (lineSection b) (pieceLength b) (h .pieces)) ++ drop (h .pieces) before) (r .own)
-    (subst (λ (l : List ℕ). after ≡ patchBytes (influenceLine l (pieceLength b) (head .pieces)) ++ drop (head .pieces) before) l m) in
+    let marked : after ≡ patchBytes (decode b .line) ++ drop (headerOf b .pieces) before =
+    subst (λ (h : Header). after ≡ patchBytes (influenceLine (sectionOf b Line) (headerOf b .h) (h .pieces)) ++ drop (h .pieces) before) (r .own)
+    (subst (λ (l : List ℕ). after ≡ patchBytes (influenceLine l (headerOf b .h) (head .pieces)) ++ drop (head .pieces) before) l m) in
     accepted v
     (record {
       refusal = refl;
       place = refl;
-      account = subst (λ (l : List ℕ). AccountRight (decode b) l a) (sym marked) (account-right (decode b) (signed r) (spaced r) (drop (pieceCount b) before) a p);
+      account = subst (λ (l : List ℕ). AccountRight (decode b) l a) (sym marked) (account-right (decode b) (signed r) (spaced r) (drop (headerOf b .pieces) before) a p);
       patch = marked;
     })
 
-read-requires : tie.Need-read-requires
-read-requires c κs = has-header _ (clear _ _ (is-accepted (c .before .before .verdict .result) (c .if1 .left) (c .before .before .verdict .ensures .says)) .c1)
-
 account-requires : tie.Need-account-requires
-account-requires c κs = ready c
+account-requires c κs = ready (c .before .before)
 
-line-requires : tie.Need-line-requires
-line-requires c κs = sized (ready (c .before))
+section-requires : tie.Need-section-requires
+section-requires c κs = sized (ready (c .before .before .before))
 
 mark-requires : tie.Need-mark-requires
 mark-requires c κs =
-    let r = ready (c .before .before .before) in
-    let fits = subst (λ (l : List ℕ). LineFits l (c .before .before .before .read .result .pieces)) (sym (c .before .line .ensures)) (line-fits r) in
-    let room = subst (λ (h : Header). h .pieces ≤ r .patch) (sym (r .own)) (patch-fits _ _ (clear _ _ (r .accepted) .c9)) in
-    (fits-fewer fits (omega arith), omega (arith, room))
+    let d = c .before .before .before .before .before in
+    let fits = subst (λ (l : List ℕ). LineFits l (d .read .result .pieces)) (sym (c .before .section .ensures)) (line-fits (ready d)) in
+    (fits-fewer fits (omega arith), omega (arith, c .before .before .before .if2 .left))
 
 same-length : tie.Need-same-length
 same-length c = search needs
 
-returns-2 : tie.Need-returns-2
-returns-2 c =
+returns-3 : tie.Need-returns-3
+returns-3 c =
     let a = c .before .before .before .before .before in
-    let at = c .before .before .before .before .before .before in
-    answers (ready at) (c .before .before .before .before .line .ensures) (c .before .before .mark .ensures _) (a .account .result) (a .account .ensures) (ready at .accepted)
+    let d = a .before .before .before in
+    answers (ready d) (c .before .before .before .before .section .ensures) (c .before .before .mark .ensures _) (a .account .result) (a .account .ensures)
+    (long-accepted _ _ (ready d .accepted) (omega (arith, pieces d, a .before .if2 .left)))
 
 pub solve-spec : {M : Type 1} → statement M
 solve-spec =
@@ -103,8 +115,10 @@ solve-spec =
     refused-requires
     returns
     read-requires
+    refused-requires-2
+    returns-2
     account-requires
-    line-requires
+    section-requires
     mark-requires
     same-length
-    returns-2)
+    returns-3)

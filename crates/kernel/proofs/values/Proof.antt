@@ -35,13 +35,13 @@ lane-count-requires c κs = width-limits (c .before .before .before .before .bef
 factor-requires : tie.Need-factor-requires
 factor-requires c κs = dynamic-limits (c .before .before .before .before .before .before .pre .0)
 
-transverse-requires : tie.Need-transverse-requires
-transverse-requires c κs = sized (c .before .before .before .before .before .before .before .pre .0)
+section-requires : tie.Need-section-requires
+section-requires c κs = sized (c .before .before .before .before .before .before .before .pre .0)
 
 spans-requires : tie.Need-spans-requires
 spans-requires c κs =
     let s = c .before .before .before .before .before .before .before .before in
-    (subst (λ (l : List ℕ). AcrossFits l (s .args .head .width) (s .args .head .spacing)) (sym (c .transverse .ensures)) (across-fits (s .pre .0)), c .before .before .lane-count .ensures .0)
+    (subst (λ (l : List ℕ). AcrossFits l (s .args .head .width) (s .args .head .spacing)) (sym (c .section .ensures)) (across-fits (s .pre .0)), c .before .before .lane-count .ensures .0)
 
 module _ (c : tie.After-spans) where
   abbrev counted : tie.After-lane-count
@@ -78,13 +78,13 @@ module _ (c : tie.After-spans) where
   ho-fit = effects-fit job HO (st .pre .1 .0) (st .pre .1 .1) (formed .before .effect3 .ensures) (formed .effect4 .ensures)
 
   fits : TrafficFits (c .spans .result) (counted .lane-count .result) (st .args .head .spacing) (c .before .before .factor .result)
-  fits = traffic-fits (st .pre .0) (c .before .transverse .ensures) (c .spans .result) (counted .lane-count .ensures) (c .before .before .factor .ensures) (c .spans .ensures .1 .0)
+  fits = traffic-fits (st .pre .0) (c .before .section .ensures) (c .spans .result) (counted .lane-count .ensures) (c .before .before .factor .ensures) (c .spans .ensures .1 .0)
 
   over : Spanned (job .deck) (c .spans .result) (counted .lane-count .result) (st .args .head .spacing)
-  over = spanned (st .pre .0) (c .before .transverse .ensures) (c .spans .result) (counted .lane-count .ensures) (c .before .before .factor .ensures) (c .spans .ensures .1 .0)
+  over = spanned (st .pre .0) (c .before .section .ensures) (c .spans .result) (counted .lane-count .ensures) (c .before .before .factor .ensures) (c .spans .ensures .1 .0)
 
   factor : (q : Question) → c .before .before .factor .result ≡ job .dynamic q
-  factor = factor-is (st .pre .0) (c .before .transverse .ensures) (c .spans .result) (counted .lane-count .ensures) (c .before .before .factor .ensures) (c .spans .ensures .1 .0)
+  factor = factor-is (st .pre .0) (c .before .section .ensures) (c .spans .result) (counted .lane-count .ensures) (c .before .before .factor .ensures) (c .spans .ensures .1 .0)
 
 normal-requires : tie.Need-normal-requires
 normal-requires c κs = (fits c, hn-fit c)
@@ -132,7 +132,7 @@ values-spec =
     effect-requires-4
     lane-count-requires
     factor-requires
-    transverse-requires
+    section-requires
     spans-requires
     normal-requires
     normal-requires-2
