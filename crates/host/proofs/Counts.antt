@@ -21,7 +21,8 @@ use Rattle.model.specs.declared.Entry.the-variants.{Unloaded, Hn, Ho}
 use Rattle.model.specs.declared.Extreme.{Extreme}
 use Rattle.model.specs.declared.State.{State}
 use Rattle.model.specs.declared.State.the-variants.{Absent, Reported}
-use Rattle.model.proofs.Accepted.{HeaderFits, clear, header-fits}
+use Rattle.model.proofs.Verdict.{clear, job-accepted}
+use Rattle.model.proofs.HeaderLimits.{HeaderFits, header-fits}
 use Rattle.model.proofs.Lanes.{lane-count}
 use Rattle.encode.specs.Encoding.{CentresFit, RowsFit, CountsFit}
 
@@ -84,7 +85,7 @@ counts-fit {b} {before} {after} {x} (accepted v r) =
     }
   where
     header : HeaderFits b
-    header = header-fits b (clear b _ v .c2)
+    header = header-fits b (clear b (job-accepted b _ v) .c2)
 
     small : {q : Question} {live : Live} (y : Extreme) → TrafficRight (decode b) after (x .account) q live y → (i : ℕ) → laneAt (y .placement) i .centre < 2 ^ 63
     small y t i = centre-small (decode b) after (x .account) (header .wide .most) (header .rows .most) y t i

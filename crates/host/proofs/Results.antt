@@ -12,7 +12,7 @@ use Rattle.model.proofs.Determined.{determined}
 use Rattle.model.specs.declared.Answer.{Answer}
 use Rattle.encode.specs.Encoding.{accountSize, accountBytes, bytesOf}
 use Rattle.host.specs.Hosted.{packed, Hosted, short, answered}
-use Rattle.host.proofs.Places.{refusal-small, answer-small}
+use Rattle.model.proofs.Places.{refusal-small, answer-small}
 
 -- number and place come apart again, as the header takes them
 pub taken-apart : {b before after : List ℕ} {a : Answer} → Answered b before a after → (packed (a .refusal) (a .place) % 256 ≡ a .refusal) × (packed (a .refusal) (a .place) / 256 ≡ a .place)

@@ -2,7 +2,7 @@ use mathlib.Core.Path.{refl}
 use native.Mathlib.Omega.{arith}
 use borrow.Author.Needs.{needs}
 use Rattle.host.specs.Hosted.{short, answered}
-use Rattle.host.proofs.Places.{answer-small}
+use Rattle.model.proofs.Places.{answer-small}
 use Rattle.host.proofs.Counts.{counts-fit}
 use Rattle.host.proofs.hnho_solve.Statement.{statement}
 use Rattle.host.proofs.hnho_solve.Tie as tie
