@@ -1,5 +1,6 @@
 pub mod Sizes
 pub mod Words
 pub mod Scans
+pub mod Pieces
 pub mod Rulings
 pub mod Linked

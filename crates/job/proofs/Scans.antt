@@ -1,7 +1,7 @@
 -- A search of the items of a section for the first that has a place at fault: how it goes on and ends.
 use mathlib.Core.Path.{_≡_, refl, _∙_, ap}
 use mathlib.Core.Option.{Option, none, some}
-use Prim.Native.Nat.{ℕ, zero, suc, _+_, _≤_, _<_}
+use Prim.Native.Nat.{ℕ, zero, suc, _+_, _*_, _≤_, _<_}
 use native.Mathlib.Decide.{decLe}
 use native.Mathlib.Omega.{arith}
 use Rattle.exact.specs.Choice.{orElse}
@@ -46,3 +46,17 @@ module _ {f : ℕ → Option ℕ} {n i : ℕ} (s : Searched f n i) where
   -- no item is left
   pub search-over : n ≤ i → firstAnswer 0 n f ≡ none
   search-over h = answer-none 0 n f (λ k _ l. s .passed k (omega arith))
+
+-- a count of what is wrong with the items before k, each adding at most 2: where it is 0, nothing is
+pub record Tally (right : ℕ → Type 0) (sum k : ℕ) : Type 0 where
+  pub small : sum ≤ 2 * k
+  pub clear : sum ≡ 0 → (j : ℕ) → j < k → right j
+
+pub tally-begins : {right : ℕ → Type 0} → Tally right 0 0
+tally-begins = record { small = omega arith; clear = λ e j h. absurd (omega arith) }
+
+pub tally-more : {right : ℕ → Type 0} {sum k r : ℕ} → Tally right sum k → (r ≤ 2) × (r ≡ 0 → right k) → Tally right (sum + r) (k + 1)
+tally-more {right} {sum} {k} {r} t h = record {
+  small = omega (arith, t .small, h .0);
+  clear = λ e j l. elim (decLe k j) [ yes q ↦ let g : j ≡ k = omega arith in rw g (h .1 (omega arith)) | no q ↦ t .clear (omega arith) j (omega arith) ];
+}

@@ -11,7 +11,7 @@ use mir.Val.{ofZ}
 use borrow.Author.Tests.{le-leb, lt-leb}
 use Rattle.exact.specs.Choice.{between}
 use Rattle.exact.proofs.Bridge.{by-test, subbed, up-neg, dn-neg, ℕ→≡}
-use Rattle.exact.proofs.Tests.{lt-is, le-is}
+use Rattle.exact.proofs.Tests.{lt-is, lt-not, le-is, le-not}
 use Rattle.model.specs.Format.{is}
 
 -- below 0 is below any count
@@ -31,6 +31,10 @@ range-short lo hi (negsuc n) e h = absurd (subst T e tt)
 
 pub zero-less : (m : ℤ) → pos 0 -ℤ m ≡ negℤ m
 zero-less m = ℕ→≡ _ _ (omega (arith, subbed (pos 0) m, up-neg m, dn-neg m))
+
+-- what is not below is at least
+pub at-least : (x y : ℤ) → ltZ x y ≡ false → leZ y x ≡ true
+at-least x y e = by-test (leZ y x) (λ t. t ≡ true) (λ _. refl) (λ f. absurd (omega (arith, le-not y x f, lt-not x y e)))
 
 -- a test of the code failed, or passed: so did the table's
 pub failed : {r t : Bool} → r ≡ t → not r ≡ true → t ≡ false

@@ -1,3 +1,4 @@
 pub mod Sized
+pub mod Lines
 pub mod Defects
 pub mod Rulings

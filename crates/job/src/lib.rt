@@ -2,5 +2,6 @@
 pub mod defects;
 pub mod header;
 pub mod limits;
+pub mod lines;
 pub mod refusals;
 pub mod sections;

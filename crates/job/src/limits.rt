@@ -43,7 +43,7 @@ fn within(s: &[u8], p: usize, m: i64) -> bool
     requires { ⌜ (4 * p + 4 ≤ length (now s)) × Within 1000000000 m ⌝ }
     ensures { λ r. ⌜ r ≡ between (negℤ m) m (wordAt (now (s .entry)) p) ⌝ }
 {
-    words::is_between(-m, m, words::word(s, p))
+    exact::is_between(-m, m, words::word(s, p))
 }
 
 // The field of an item at fault: field j unless its word is admitted, else a later one.

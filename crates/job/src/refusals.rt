@@ -1,12 +1,13 @@
 // The refusals of a job, each the lowest place at fault, and the verdict.
 ghost use mathlib.Core.Path.{_≡_};
 ghost use mathlib.Core.Option.{none, some};
-ghost use Prim.Native.Nat.{ℕ, _*_, _≤_};
+ghost use Prim.Native.Nat.{ℕ, _≤_};
 ghost use lib.ListN.{length};
 ghost use Rattle.exact.specs.Choice.{orElse};
-ghost use Rattle.model.specs.Fields.{moved, misfit};
+ghost use Rattle.model.specs.Fields.{moved};
 ghost use Rattle.model.specs.Format.{headerOf, start, fault};
-ghost use Rattle.model.specs.Refusals.{crosses, signs, fault1, fault2, fault3, fault4, fault5, fault6, fault7, fault8, jobVerdict};
+ghost use Rattle.model.specs.Refusals.{fault1, fault2, fault3, fault4, fault5, fault6, fault7, fault8, jobVerdict};
+ghost use Rattle.model.specs.declared.Part.the-variants.{Line};
 ghost use Rattle.job.specs.Sized.{placeOf, Counted, Sized};
 ghost use Rattle.job.specs.Rulings.{Rules, testOf, Passed};
 use crate::defects;
@@ -14,6 +15,7 @@ use crate::defects::Defect;
 use crate::header;
 use crate::limits;
 use crate::limits::Fault;
+use crate::lines;
 use crate::sections;
 use model::Header;
 use model::Part;
@@ -93,39 +95,23 @@ fn or_else(first: Fault, second: Fault) -> Fault
     }
 }
 
+// The lowest place at fault in the line, sought only where there is one.
+fn line(s: &[u8], head: Header) -> Fault
+    requires { ⌜ Sized (now s) head ⌝ }
+    ensures { λ r. ⌜ placeOf r ≡ fault (now (s .entry)) (headerOf (now (s .entry))) Line ⌝ }
+{
+    if lines::strays(sections::section(s, head, Part::Line), 5000) == 0 {
+        return Fault::Clear;
+    }
+    fault(s, head, Part::Line)
+}
+
 // 4: an ordinate of either line outside its limits.
 fn ordinates(s: &[u8], head: Header) -> Fault
     requires { ⌜ Sized (now s) head ⌝ }
     ensures { λ r. ⌜ placeOf r ≡ fault4 (now (s .entry)) ⌝ }
 {
-    or_else(fault(s, head, Part::Line), fault(s, head, Part::Transverse))
-}
-
-// One is above 0 and the other below.
-fn crosses(x: i64, y: i64) -> bool
-    ensures { λ r. ⌜ r ≡ crosses x y ⌝ }
-{
-    if 0 < x {
-        return y < 0;
-    }
-    if x < 0 {
-        return 0 < y;
-    }
-    false
-}
-
-// Of a line's own bytes: a piece with one ordinate above 0 and one below.
-pub fn crossing(s: &[u8], pieces: usize) -> Fault
-    requires { ⌜ 8 * pieces ≤ length (now s) ⌝ }
-    ensures { λ r. ⌜ placeOf r ≡ misfit (signs pieces) (now (s .entry)) ⌝ }
-{
-    for i in 0..pieces {
-        let p = 2 * i;
-        if crosses(words::word(s, p), words::word(s, p + 1)) {
-            return Fault::At(p);
-        }
-    }
-    Fault::Clear
+    or_else(line(s, head), fault(s, head, Part::Transverse))
 }
 
 // 5: a piece of the job's line.
@@ -133,7 +119,7 @@ fn signs(s: &[u8], head: Header) -> Fault
     requires { ⌜ Sized (now s) head ⌝ }
     ensures { λ r. ⌜ placeOf r ≡ fault5 (now (s .entry)) ⌝ }
 {
-    let own = crossing(sections::section(s, head, Part::Line), head.pieces);
+    let own = lines::crossing(sections::section(s, head, Part::Line), head.pieces);
     in_job(head, Part::Line, own)
 }
 

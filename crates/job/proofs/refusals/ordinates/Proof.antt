@@ -9,8 +9,8 @@ use Rattle.job.proofs.refusals.ordinates.Tie as tie
 fault-requires : tie.Need-fault-requires
 fault-requires c κs = search needs
 
-fault-requires-2 : tie.Need-fault-requires-2
-fault-requires-2 c κs = search needs
+line-requires : tie.Need-line-requires
+line-requires c κs = search needs
 
 or-else-requires : tie.Need-or-else-requires
 or-else-requires c κs = search needs
@@ -19,7 +19,7 @@ returns : tie.Need-returns
 unfolding fault4
 returns c =
     c .or-else .ensures
-    ∙ ap₂ orElse (c .before .before .fault .ensures) (c .before .fault2 .ensures ∙ sym (or-nothing _))
+    ∙ ap₂ orElse (c .before .before .line .ensures) (c .before .fault .ensures ∙ sym (or-nothing _))
 
 pub ordinates-spec : {M : Type 1} → statement M
-ordinates-spec = tie.close (tie.spec fault-requires fault-requires-2 or-else-requires returns)
+ordinates-spec = tie.close (tie.spec line-requires fault-requires or-else-requires returns)

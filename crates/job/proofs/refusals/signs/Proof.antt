@@ -6,6 +6,7 @@ use Rattle.model.specs.Format.{start, sectionOf}
 use Rattle.model.specs.Refusals.{signs, fault5}
 use Rattle.model.specs.declared.Header.{Header}
 use Rattle.model.specs.declared.Part.the-variants.{Line}
+use Rattle.model.proofs.HeaderLimits.{header-fits}
 use Rattle.model.proofs.Fits.{below}
 use Rattle.job.proofs.Sizes.{counts, part-length, few-words}
 use Rattle.job.proofs.refusals.signs.Statement.{statement}
@@ -17,7 +18,7 @@ section-requires c κs = c .before .pre
 crossing-requires : tie.Need-crossing-requires
 crossing-requires c κs =
     let st = c .before .before in
-    omega (arith, ap length (c .section .ensures), part-length (st .pre) Line, ap (λ (h : Header). h .pieces) (st .pre .own))
+    omega (arith, ap length (c .section .ensures), part-length (st .pre) Line, ap (λ (h : Header). h .pieces) (st .pre .own), header-fits _ (st .pre .within) .pieces .most)
 
 in-job-requires : tie.Need-in-job-requires
 in-job-requires c κs =

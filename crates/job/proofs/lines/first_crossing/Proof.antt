@@ -1,27 +1,16 @@
 use borrow.Author.Needs.{needs}
-use mathlib.Core.Path.{_≡_, refl, sym, _∙_, ap, ap₂}
-use mathlib.Core.Bool.{Bool, not}
-use mathlib.Core.Option.{none, some}
-use mathlib.Core.List.{List}
-use Prim.Native.Nat.{ℕ, _+_, _-_, _*_}
-use native.Mathlib.Nat.{add-zero}
+use mathlib.Core.Path.{_≡_, sym, _∙_, ap₂}
+use Prim.Native.Nat.{_+_, _-_, _*_}
 use native.Mathlib.Omega.{arith}
 use mir.Syntax.{w64}
-use Rattle.exact.specs.Choice.{if_then_else_}
-use Rattle.exact.proofs.Bridge.{by-test}
 use Rattle.exact.proofs.Held.{got}
 use Rattle.model.specs.Words.{wordAt}
 use Rattle.model.specs.Refusals.{crosses, signs}
-use Rattle.model.specs.Fields.{moved, itemMisfit, misfit}
+use Rattle.model.specs.Fields.{itemMisfit, misfit}
+use Rattle.job.proofs.Pieces.{piece}
 use Rattle.job.proofs.Scans.{Searched, search-begins, search-goes-on, search-found, search-over}
-use Rattle.job.proofs.refusals.crossing.Statement.{statement}
-use Rattle.job.proofs.refusals.crossing.Tie as tie
-
--- a piece by the test of refusal 5, of known answer
-piece : (n : ℕ) (s : List ℕ) (i : ℕ) {t : Bool} → crosses (wordAt s (2 * i)) (wordAt s (2 * i + 1)) ≡ t → itemMisfit (signs n .fields) s i ≡ (if t then some (2 * i) else none)
-piece n s i {t} e =
-    rw (add-zero (2 * i), e)
-    (by-test t (λ t. moved (2 * i) (if not t then none else some 0) ≡ (if t then some (2 * i) else none)) (λ _. ap some (add-zero (2 * i))) (λ _. refl))
+use Rattle.job.proofs.lines.first_crossing.Statement.{statement}
+use Rattle.job.proofs.lines.first_crossing.Tie as tie
 
 abbrev Inv-loop : tie.InvT-loop
 Inv-loop s pieces i₀ i = Searched (itemMisfit (signs pieces .fields) s) pieces i
@@ -75,8 +64,8 @@ returns-2 : tie.Need-returns-2 Inv-loop μ-loop
 unfolding misfit
 returns-2 c = sym (search-over (c .before .loop .inv) (omega arith))
 
-pub crossing-spec : {M : Type 1} → statement M
-crossing-spec =
+pub first-crossing-spec : {M : Type 1} → statement M
+first-crossing-spec =
     tie.close
     (tie.spec
     Inv-loop

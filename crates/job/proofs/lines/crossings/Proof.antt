@@ -1,0 +1,83 @@
+use mathlib.Core.Path.{_≡_, refl, sym, _∙_, ap, ap₂, subst}
+use mathlib.Core.Bool.{true, false}
+use Prim.Native.Nat.{ℕ, _+_, _-_, _*_, _<_}
+use native.Mathlib.Omega.{arith}
+use lib.IntN.{ℤ, negℤ}
+use mir.Syntax.{w32}
+use mir.Val.{toZ, ofZ}
+use Rattle.exact.proofs.Held.{back}
+use Rattle.model.specs.Words.{wordAt}
+use Rattle.model.specs.Refusals.{crosses}
+use Rattle.job.proofs.Scans.{Tally, tally-begins, tally-more}
+use Rattle.job.proofs.lines.crossings.Statement.{statement}
+use Rattle.job.proofs.lines.crossings.Tie as tie
+
+abbrev Inv-loop : tie.InvT-loop
+Inv-loop s pieces sum₀ i₀ sum i = Tally (λ j. crosses (wordAt s (2 * j)) (wordAt s (2 * j + 1)) ≡ false) sum i
+
+abbrev μ-loop : tie.MeasureT-loop
+μ-loop s pieces sum₀ i₀ sum i = pieces - i
+
+loop-holds : tie.Need-loop-holds Inv-loop μ-loop
+loop-holds c = tally-begins
+
+mul-word32 : tie.Need-mul-word32 Inv-loop μ-loop
+mul-word32 c = omega arith
+
+word32-requires : tie.Need-word32-requires Inv-loop μ-loop
+word32-requires c κs = omega arith
+
+mul-word32-2 : tie.Need-mul-word32-2 Inv-loop μ-loop
+mul-word32-2 c = omega arith
+
+add-word32 : tie.Need-add-word32 Inv-loop μ-loop
+add-word32 c = omega arith
+
+word32-requires-2 : tie.Need-word32-requires-2 Inv-loop μ-loop
+word32-requires-2 c κs = omega arith
+
+crossed-requires : tie.Need-crossed-requires Inv-loop μ-loop
+crossed-requires c κs = tt
+
+add-sum : tie.Need-add-sum Inv-loop μ-loop
+add-sum c = omega (arith, c .before .before .before .before .loop .inv .small, c .crossed .ensures .0)
+
+add-i : tie.Need-add-i Inv-loop μ-loop
+add-i c = omega arith
+
+loop-less : tie.Need-loop-less Inv-loop μ-loop
+loop-less c = omega arith
+
+loop-again : tie.Need-loop-again Inv-loop μ-loop
+loop-again c =
+    let at = c .before .before .before .before in
+    let s = at .before .before .args .s .now in
+    let i = at .loop .i in
+    tally-more (at .loop .inv)
+    (
+      c .crossed .ensures .0,
+      λ e. subst (λ (x : ℤ). crosses x (wordAt s (2 * i + 1)) ≡ false) (back w32 (c .before .before .word32 .ok) (c .before .before .word32 .ensures))
+      (subst (λ (y : ℤ). crosses (toZ w32 (ofZ w32 (c .before .before .word32 .result))) y ≡ false) (back w32 (c .before .word322 .ok) (c .before .word322 .ensures)) (c .crossed .ensures .1 e)),
+    )
+
+returns : tie.Need-returns Inv-loop μ-loop
+returns c = λ e i h. c .before .loop .inv .clear e i (omega arith)
+
+pub crossings-spec : {M : Type 1} → statement M
+crossings-spec =
+    tie.close
+    (tie.spec
+    Inv-loop
+    μ-loop
+    loop-holds
+    mul-word32
+    word32-requires
+    mul-word32-2
+    add-word32
+    word32-requires-2
+    crossed-requires
+    add-sum
+    add-i
+    loop-less
+    loop-again
+    returns)
