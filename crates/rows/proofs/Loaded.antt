@@ -11,13 +11,11 @@ use Rattle.exact.proofs.Extremes.{better-first, better-second}
 use Rattle.exact.proofs.Ring.{_⊕_, _⊗_, lit, _≐_, solve}
 use Rattle.model.specs.Decode.{liveOf}
 use Rattle.model.specs.Job.{Effect, Live, Row}
-use Rattle.model.specs.Rows.{chainValue, rowValue, bestChain, bestRow}
-use Rattle.model.specs.Answered.{omits}
+use Rattle.model.specs.Rows.{rowValue, bestChain, bestRow}
 use Rattle.rows.specs.declared.chain.Chained.{Chained}
-use Rattle.rows.specs.Chained.{flagged, ChainRight}
+use Rattle.rows.specs.Chained.{ChainRight}
 use Rattle.rows.specs.declared.state.Live.{Live as Values}
 use Rattle.rows.specs.Governed.{trafficOf, RowRight}
-use Rattle.rows.proofs.Omissions.{chain-cong}
 
 -- the value that each number of a live kind takes
 pub kind-normal : (v : Values) (k : ℕ) → k ≡ 1 → trafficOf v (liveOf k) ≡ v .normal
@@ -29,22 +27,18 @@ kind-overload v k e = rw e refl
 pub kind-none : (v : Values) (k : ℕ) → k ≤ 2 → ¬ (k ≡ 1) → ¬ (k ≡ 2) → trafficOf v (liveOf k) ≡ pos 0
 kind-none v k h f g = let e : k ≡ 0 = omega arith in rw e refl
 
-module _ (q : Question) (effect : ℕ → Effect) (row : ℕ → Row) (v : Values) (r : ℕ) (left : ℕ) (x : Chained) (omitted : ℕ)
-    (right : ChainRight q effect (row r .chain) left x) (bits : (e : ℕ) → omits omitted e ≡ flagged (x .out) e) where
+module _ (q : Question) (effect : ℕ → Effect) (row : ℕ → Row) (v : Values) (r : ℕ) (most : ℕ) (x : Chained) (right : ChainRight q effect (row r .chain) most x) where
   -- the row's traffic
   abbrev pub loaded : ℤ
   loaded = pos (row r .factor) *ℤ trafficOf v (row r .live)
 
-  given : chainValue effect (omits omitted) (row r .chain) ≡ x .value
-  given = chain-cong effect (omits omitted) (flagged (x .out)) (row r .chain) (λ e _. bits e) ∙ right .gives
-
   -- it does not pay, and is left out
-  pub row-unladen : beats q (pos 0) loaded ≡ true → RowRight q effect row (trafficOf v) (record { value = x .value; row = r; omitted = omitted; unladen = true })
+  pub row-unladen : beats q (pos 0) loaded ≡ true → RowRight q effect row (trafficOf v) (record { value = x .value; row = r; omitted = x .omitted; unladen = true })
   unfolding rowValue bestRow
   row-unladen b = record {
     value = right .value ∙ sym (ap (λ (z : ℤ). bestChain q effect (row r .chain) +ℤ z) (better-first q (pos 0) loaded b) ∙ zero-last (bestChain q effect (row r .chain)));
-    mayOmit = λ e t. right .mayOmit e (sym (bits e) ∙ t);
-    gives = ap₂ _+ℤ_ given (solve 1 (λ f. f ⊗ lit 0 ≐ lit 0) tt (pos (row r .factor))) ∙ zero-last (x .value);
+    mayOmit = right .mayOmit;
+    gives = ap₂ _+ℤ_ (right .gives) (solve 1 (λ f. f ⊗ lit 0 ≐ lit 0) tt (pos (row r .factor))) ∙ zero-last (x .value);
     laden = λ e. absurd (true≢false (sym b ∙ ap (beats q (pos 0)) (ap (λ (l : Live). pos (row r .factor) *ℤ trafficOf v l) e ∙ solve 1 (λ f. f ⊗ lit 0 ≐ lit 0) tt (pos (row r .factor))) ∙ never q));
   }
     where
@@ -56,11 +50,11 @@ module _ (q : Question) (effect : ℕ → Effect) (row : ℕ → Row) (v : Value
       never Least = refl
 
   -- it counts
-  pub row-laden : beats q (pos 0) loaded ≡ false → RowRight q effect row (trafficOf v) (record { value = x .value +ℤ loaded; row = r; omitted = omitted; unladen = false })
+  pub row-laden : beats q (pos 0) loaded ≡ false → RowRight q effect row (trafficOf v) (record { value = x .value +ℤ loaded; row = r; omitted = x .omitted; unladen = false })
   unfolding rowValue bestRow
   row-laden b = record {
     value = ap₂ _+ℤ_ (right .value) (sym (better-second q (pos 0) loaded b));
-    mayOmit = λ e t. right .mayOmit e (sym (bits e) ∙ t);
-    gives = ap (λ (z : ℤ). z +ℤ loaded) given;
+    mayOmit = right .mayOmit;
+    gives = ap (λ (z : ℤ). z +ℤ loaded) (right .gives);
     laden = λ _. refl;
   }

@@ -17,6 +17,7 @@ use Rattle.model.specs.declared.State.{State}
 use Rattle.model.specs.declared.State.the-variants.{Absent, Reported}
 use Rattle.rows.specs.declared.state.Live.{Live as Values}
 use Rattle.rows.specs.declared.state.Found.{Found}
+use Rattle.rows.specs.declared.state.Both.{Both}
 
 -- the traffic value of a live kind; without traffic it is 0
 abbrev pub trafficOf : Values → Live → ℤ
@@ -58,6 +59,10 @@ laterFound q sofar next =
 pub record FoundRight (q : Question) (effect : ℕ → Effect) (row : ℕ → Row) (traffic : Live → ℤ) (limit : Limit) (n : ℕ) (f : Found) : Type 0 where
   pub is : governs q effect row traffic limit n ≡ found f
   pub right : f .any ≡ true → RowRight q effect row traffic (f .best)
+
+-- both questions', each with its traffic
+abbrev pub BothRight : (effect : ℕ → Effect) → (row : ℕ → Row) → (most least : Live → ℤ) → Limit → ℕ → Both → Type 0
+BothRight effect row most least limit n f = FoundRight Greatest effect row most limit n (f .greatest) × FoundRight Least effect row least limit n (f .least)
 
 -- a limit state's value is that of its governing row, and is right
 pub record StateRow (q : Question) (effect : ℕ → Effect) (row : ℕ → Row) (traffic : Live → ℤ) (limit : Limit) (n : ℕ) (x : Governing) : Type 0 where

@@ -1,5 +1,6 @@
 // The rows' best values, and the governing row of a limit state for each question.
 use crate::chain;
+use crate::chain::Chained;
 use exact::Question;
 use model::Governing;
 use model::State;
@@ -10,7 +11,8 @@ ghost use Rattle.exact.specs.Bounds.{Within};
 ghost use Rattle.model.specs.Words.{countAt};
 ghost use Rattle.model.specs.Decode.{effectAt, limitOf, liveOf, rowAt};
 ghost use Rattle.rows.specs.Tables.{TablesFit};
-ghost use Rattle.rows.specs.Governed.{trafficOf, LiveFits, RowRight, laterFound, FoundRight, StateFound};
+ghost use Rattle.rows.specs.Chained.{ChainRight};
+ghost use Rattle.rows.specs.Governed.{trafficOf, LiveFits, RowRight, laterFound, BothRight, StateFound};
 
 // The greatest (least) traffic values.
 pub struct Live {
@@ -40,7 +42,7 @@ fn first_record(rows: &[u8], r: usize) -> usize
     words::count(rows, 4 * (r - 1) + 3)
 }
 
-// Row r's best value.
+// Row r's best value, by its chain's.
 fn row(
     q: Question,
     effects: &[u8],
@@ -49,30 +51,28 @@ fn row(
     count: usize,
     live: Live,
     r: usize,
+    chain: Chained,
 ) -> Governing
     requires { ⌜ TablesFit (now effects) (now rows) (now records) r count × (1 ≤ r) × LiveFits live ⌝ }
+    requires { ⌜ ChainRight q (effectAt (now effects)) (rowAt (now rows) (now records) count r .chain) count chain ⌝ }
     ensures { λ x. ⌜ x .row ≡ r ⌝ }
     ensures { λ x. ⌜ RowRight q (effectAt (now (effects .entry))) (rowAt (now (rows .entry)) (now (records .entry)) count) (trafficOf live) x ⌝ }
 {
-    let first = first_record(rows, r);
-    let c = chain::best(q, effects, records, first, count);
-    let out = c.out;
-    let omitted = chain::omitted(out);
     let kind = words::count(rows, 4 * (r - 1) + 1);
     let factor = words::count(rows, 4 * (r - 1) + 2);
     let loaded = (factor as i64) * traffic(kind, live);
     if exact::beats(q, 0, loaded) {
         return Governing {
-            value: c.value,
+            value: chain.value,
             row: r,
-            omitted,
+            omitted: chain.omitted,
             unladen: true,
         };
     }
     Governing {
-        value: c.value + loaded,
+        value: chain.value + loaded,
         row: r,
-        omitted,
+        omitted: chain.omitted,
         unladen: false,
     }
 }
@@ -103,42 +103,72 @@ fn later(q: Question, sofar: Found, next: Governing) -> Found
     }
 }
 
+// The governing rows of both questions so far.
+pub struct Both {
+    pub greatest: Found,
+    pub least: Found,
+}
+
 // Row r taken into account, where it is of the limit state.
 fn step(
-    q: Question,
     effects: &[u8],
     rows: &[u8],
     records: &[u8],
     count: usize,
-    live: Live,
+    most: Live,
+    least: Live,
     limit: usize,
-    sofar: Found,
+    sofar: Both,
     r: usize,
-) -> Found
-    requires { ⌜ TablesFit (now effects) (now rows) (now records) r count × (1 ≤ r) × LiveFits live × (1 ≤ limit) × (limit ≤ 2) ⌝ }
-    requires { ⌜ FoundRight q (effectAt (now effects)) (rowAt (now rows) (now records) count) (trafficOf live) (limitOf limit) (r - 1) sofar ⌝ }
-    ensures { λ f. ⌜ FoundRight q (effectAt (now (effects .entry))) (rowAt (now (rows .entry)) (now (records .entry)) count) (trafficOf live) (limitOf limit) r f ⌝ }
+) -> Both
+    requires { ⌜ TablesFit (now effects) (now rows) (now records) r count × (1 ≤ r) × LiveFits most × LiveFits least × (1 ≤ limit) × (limit ≤ 2) ⌝ }
+    requires { ⌜ BothRight (effectAt (now effects)) (rowAt (now rows) (now records) count) (trafficOf most) (trafficOf least) (limitOf limit) (r - 1) sofar ⌝ }
+    ensures { λ f. ⌜ BothRight (effectAt (now (effects .entry))) (rowAt (now (rows .entry)) (now (records .entry)) count) (trafficOf most) (trafficOf least) (limitOf limit) r f ⌝ }
 {
     if words::count(rows, 4 * (r - 1)) == limit {
-        let next = row(q, effects, rows, records, count, live, r);
-        return later(q, sofar, next);
+        let first = first_record(rows, r);
+        let chain = chain::best(effects, records, first, count);
+        let g = row(
+            Question::Greatest,
+            effects,
+            rows,
+            records,
+            count,
+            most,
+            r,
+            chain.greatest,
+        );
+        let l = row(
+            Question::Least,
+            effects,
+            rows,
+            records,
+            count,
+            least,
+            r,
+            chain.least,
+        );
+        return Both {
+            greatest: later(Question::Greatest, sofar.greatest, g),
+            least: later(Question::Least, sofar.least, l),
+        };
     }
     sofar
 }
 
-// The governing row among so many.
+// The governing rows among so many.
 fn governing(
-    q: Question,
     effects: &[u8],
     rows: &[u8],
     records: &[u8],
     n: usize,
     count: usize,
-    live: Live,
+    most: Live,
+    least: Live,
     limit: usize,
-) -> Found
-    requires { ⌜ TablesFit (now effects) (now rows) (now records) n count × LiveFits live × (1 ≤ limit) × (limit ≤ 2) ⌝ }
-    ensures { λ f. ⌜ FoundRight q (effectAt (now (effects .entry))) (rowAt (now (rows .entry)) (now (records .entry)) count) (trafficOf live) (limitOf limit) n f ⌝ }
+) -> Both
+    requires { ⌜ TablesFit (now effects) (now rows) (now records) n count × LiveFits most × LiveFits least × (1 ≤ limit) × (limit ≤ 2) ⌝ }
+    ensures { λ f. ⌜ BothRight (effectAt (now (effects .entry))) (rowAt (now (rows .entry)) (now (records .entry)) count) (trafficOf most) (trafficOf least) (limitOf limit) n f ⌝ }
 {
     let none = Governing {
         value: 0,
@@ -146,12 +176,26 @@ fn governing(
         omitted: 0,
         unladen: false,
     };
-    let mut found = Found {
+    let nothing = Found {
         any: false,
         best: none,
     };
+    let mut found = Both {
+        greatest: nothing,
+        least: nothing,
+    };
     for i in 0..n {
-        found = step(q, effects, rows, records, count, live, limit, found, i + 1);
+        found = step(
+            effects,
+            rows,
+            records,
+            count,
+            most,
+            least,
+            limit,
+            found,
+            i + 1,
+        );
     }
     found
 }
@@ -170,26 +214,9 @@ pub fn state(
     requires { ⌜ TablesFit (now effects) (now rows) (now records) n count × LiveFits most × LiveFits least × (1 ≤ limit) × (limit ≤ 2) ⌝ }
     ensures { λ s. ⌜ StateFound (effectAt (now (effects .entry))) (rowAt (now (rows .entry)) (now (records .entry)) count) (trafficOf most) (trafficOf least) (limitOf limit) n s ⌝ }
 {
-    let g = governing(
-        Question::Greatest,
-        effects,
-        rows,
-        records,
-        n,
-        count,
-        most,
-        limit,
-    );
-    let l = governing(
-        Question::Least,
-        effects,
-        rows,
-        records,
-        n,
-        count,
-        least,
-        limit,
-    );
+    let found = governing(effects, rows, records, n, count, most, least, limit);
+    let g = found.greatest;
+    let l = found.least;
     if g.any {
         let greatest = g.best;
         let lowest = l.best;

@@ -9,25 +9,12 @@ use mir.Val.{ofZ}
 use Rattle.exact.specs.Questions.{beats}
 use Rattle.exact.proofs.Held.{Held, known, got, nat, retold, plus, plus!, times, times! }
 use Rattle.model.specs.Words.{countAt}
-use Rattle.model.specs.Decode.{effectAt, liveOf, termsFrom, rowAt}
-use Rattle.rows.specs.Chained.{ChainRight}
+use Rattle.model.specs.Decode.{effectAt, liveOf, rowAt}
 use Rattle.rows.specs.Governed.{trafficOf}
 use Rattle.rows.proofs.Loaded.{row-unladen, row-laden}
 use borrow.Author.Needs.{needs}
 use Rattle.rows.proofs.state.row.Statement.{statement}
 use Rattle.rows.proofs.state.row.Tie as tie
-
-first-record-requires : tie.Need-first-record-requires
-first-record-requires c κs = search needs
-
-best-requires : tie.Need-best-requires
-best-requires c κs =
-    let s = c .before .before .before .before in
-    let f = s .pre .0 .rows (s .args .r) (s .pre .1) (le-refl (s .args .r)) in
-    (s .pre .0 .effects, s .pre .0 .records, rw (c .first-record .ensures) (f .first), s .pre .0 .most, rw (c .first-record .ensures) (f .distinct))
-
-omitted-requires : tie.Need-omitted-requires
-omitted-requires c κs = search needs
 
 sub-count : tie.Need-sub-count
 sub-count c = search needs
@@ -58,26 +45,20 @@ cast-loaded c = search needs
 
 traffic-requires : tie.Need-traffic-requires
 traffic-requires c κs =
-    let s = c .before .before .before .before .before .before .before .before .before in
-    (rw (c .before .count .ensures .0) (s .pre .0 .rows (s .args .r) (s .pre .1) (le-refl (s .args .r)) .live), s .pre .2)
+    let s = c .before .before .before .before .before in
+    (rw (c .before .count .ensures .0) (s .pre .0 .0 .rows (s .args .r) (s .pre .0 .1) (le-refl (s .args .r)) .live), s .pre .0 .2)
 
 -- the factor, and the row's traffic
-factor : (c : tie.After-count2) → Held w64 (c .count2 .result) 3000 (pos (countAt (c .before .before .before .before .before .before .before .before .before .args .rows .now) (4 * (c .before .before .before .before .before .before .before .before .before .args .r - 1) + 2)))
+factor : (c : tie.After-count2) → Held w64 (c .count2 .result) 3000 (pos (countAt (c .before .before .before .before .before .args .rows .now) (4 * (c .before .before .before .before .before .args .r - 1) + 2)))
 factor c =
-    let s = c .before .before .before .before .before .before .before .before .before in
-    let l = s .pre .0 .rows (s .args .r) (s .pre .1) (le-refl (s .args .r)) .factor in
+    let s = c .before .before .before .before .before in
+    let l = s .pre .0 .0 .rows (s .args .r) (s .pre .0 .1) (le-refl (s .args .r)) .factor in
     subst (λ (k : ℕ). Held w64 (c .count2 .result) 3000 (pos k)) (c .count2 .ensures .0) (nat w64 3000 (rw (c .count2 .ensures .0) l) (omega arith))
 
-value : (c : tie.After-traffic) → Held w64 (ofZ w64 (c .traffic .result)) 1000000000000 (trafficOf (c .before .before .before .before .before .before .before .before .before .before .args .live) (liveOf (countAt (c .before .before .before .before .before .before .before .before .before .before .args .rows .now) (4 * (c .before .before .before .before .before .before .before .before .before .before .args .r - 1) + 1))))
+value : (c : tie.After-traffic) → Held w64 (ofZ w64 (c .traffic .result)) 1000000000000 (trafficOf (c .before .before .before .before .before .before .args .live) (liveOf (countAt (c .before .before .before .before .before .before .args .rows .now) (4 * (c .before .before .before .before .before .before .args .r - 1) + 1))))
 value c =
-    let a = c .before .before .before .before .before .before .before .before .before .before .args in
+    let a = c .before .before .before .before .before .before .args in
     retold (got w64 (c .traffic .ok) (c .traffic .ensures)) (ap (λ (k : ℕ). trafficOf (a .live) (liveOf k)) (c .before .before .count .ensures .0))
-
--- the chain's value
-chained : (c : tie.After-best) → ChainRight (c .before .before .before .before .before .args .q) (effectAt (c .before .before .before .before .before .args .effects .now)) (rowAt (c .before .before .before .before .before .args .rows .now) (c .before .before .before .before .before .args .records .now) (c .before .before .before .before .before .args .count) (c .before .before .before .before .before .args .r) .chain) (c .before .before .before .before .before .args .count) (c .best .result)
-chained c =
-    let a = c .before .before .before .before .before .args in
-    subst (λ (k : ℕ). ChainRight (a .q) (effectAt (a .effects .now)) (termsFrom (a .records .now) (a .count) k) (a .count) (c .best .result)) (c .before .first-record .ensures) (c .best .ensures)
 
 mul-loaded : tie.Need-mul-loaded
 mul-loaded c = times! (factor (c .before)) (value c) (lit< tt)
@@ -87,43 +68,39 @@ beats-requires c κs = search needs
 
 returns : tie.Need-returns
 returns c =
-    let s = c .before .before .before .before .before .before .before .before .before .before .before .before .before in
+    let s = c .before .before .before .before .before .before .before .before .before in
     let a = s .args in
-    let x = c .before .before .before .before .before .before .before .before in
-    let right = chained x in
-    let load = times (factor (c .before .before .before .before)) (value (c .before .before .before)) (lit< tt) in (
+    let b = c .before .before in
+    let load = times (factor (b .before .before)) (value (b .before)) (lit< tt) in (
       refl,
-      rw (known w64 (right .bound) (omega (arith, s .pre .0 .most)) .is)
-          (row-unladen (a .q) (effectAt (a .effects .now)) (rowAt (a .rows .now) (a .records .now) (a .count)) (a .live) (a .r) (a .count) (x .best .result) (c .before .before .before .before .before .before .omitted .result) right (c .before .before .before .before .before .before .omitted .ensures)
-          (ap (beats (a .q) (pos 0)) (sym (load .is)) ∙ sym (c .before .before .beats .ensures) ∙ c .before .if1 .taken)),
+      rw (known w64 (s .pre .1 .bound) (omega (arith, s .pre .0 .0 .most)) .is)
+          (row-unladen (a .q) (effectAt (a .effects .now)) (rowAt (a .rows .now) (a .records .now) (a .count)) (a .live) (a .r) (a .count) (a .chain) (s .pre .1)
+          (ap (beats (a .q) (pos 0)) (sym (load .is)) ∙ sym (b .beats .ensures) ∙ c .before .if1 .taken)),
     )
 
-add-t18 : tie.Need-add-t18
-add-t18 c =
-    let s = c .before .before .before .before .before .before .before .before .before .before .before .before .before .before in
-    let load = times (factor (c .before .before .before .before .before)) (value (c .before .before .before .before)) (lit< tt) in
-    plus! (known w64 (chained (c .before .before .before .before .before .before .before .before .before) .bound) (omega (arith, s .pre .0 .most))) load (omega (arith, s .pre .0 .most))
+add-t15 : tie.Need-add-t15
+add-t15 c =
+    let s = c .before .before .before .before .before .before .before .before .before .before in
+    let b = c .before .before .before in
+    let load = times (factor (b .before .before)) (value (b .before)) (lit< tt) in
+    plus! (known w64 (s .pre .1 .bound) (omega (arith, s .pre .0 .0 .most))) load (omega (arith, s .pre .0 .0 .most))
 
 returns-2 : tie.Need-returns-2
 returns-2 c =
-    let s = c .before .before .before .before .before .before .before .before .before .before .before .before .before .before in
+    let s = c .before .before .before .before .before .before .before .before .before .before in
     let a = s .args in
-    let x = c .before .before .before .before .before .before .before .before .before in
-    let right = chained x in
-    let load = times (factor (c .before .before .before .before .before)) (value (c .before .before .before .before)) (lit< tt) in (
+    let b = c .before .before .before in
+    let load = times (factor (b .before .before)) (value (b .before)) (lit< tt) in (
       refl,
-      rw (plus (known w64 (right .bound) (omega (arith, s .pre .0 .most))) load (omega (arith, s .pre .0 .most)) .is)
-          (row-laden (a .q) (effectAt (a .effects .now)) (rowAt (a .rows .now) (a .records .now) (a .count)) (a .live) (a .r) (a .count) (x .best .result) (c .before .before .before .before .before .before .before .omitted .result) right (c .before .before .before .before .before .before .before .omitted .ensures)
-          (ap (beats (a .q) (pos 0)) (sym (load .is)) ∙ sym (c .before .before .before .beats .ensures) ∙ c .before .before .if1 .left)),
+      rw (plus (known w64 (s .pre .1 .bound) (omega (arith, s .pre .0 .0 .most))) load (omega (arith, s .pre .0 .0 .most)) .is)
+          (row-laden (a .q) (effectAt (a .effects .now)) (rowAt (a .rows .now) (a .records .now) (a .count)) (a .live) (a .r) (a .count) (a .chain) (s .pre .1)
+          (ap (beats (a .q) (pos 0)) (sym (load .is)) ∙ sym (b .beats .ensures) ∙ c .before .before .if1 .left)),
     )
 
 pub row-spec : {M : Type 1} → statement M
 row-spec =
     tie.close
     (tie.spec
-    first-record-requires
-    best-requires
-    omitted-requires
     sub-count
     mul-count
     add-count
@@ -137,5 +114,5 @@ row-spec =
     mul-loaded
     beats-requires
     returns
-    add-t18
+    add-t15
     returns-2)
