@@ -1,5 +1,6 @@
 pub mod Words
 pub mod Job
+pub mod Bounds
 pub mod Sections
 pub mod Chains
 pub mod Dynamic

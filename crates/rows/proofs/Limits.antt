@@ -61,6 +61,6 @@ module _ (job : Job) (patch : List ℕ) (a : Account) (limit : Limit) (signed : 
       }
 
   -- the state
-  pub state-right : (most least : Live → ℤ) (s : State) → Given Greatest most → Given Least least → StateFound (job .effect) (job .row) most least limit (job .rows) s → StateRight job patch a limit s
-  state-right most least Absent g l f = no-row Greatest job limit (same-value Greatest most g ∙ f .0)
-  state-right most least (Reported x y) g l f = (row-right Greatest most x g (f .0), row-right Least least y l (f .1))
+  pub state-right : (traffic : Question → Live → ℤ) (s : State) → ((q : Question) → Given q (traffic q)) → StateFound (job .effect) (job .row) traffic limit (job .rows) s → StateRight job patch a limit s
+  state-right traffic Absent g f = no-row Greatest job limit (same-value Greatest (traffic Greatest) (g Greatest) ∙ f Greatest)
+  state-right traffic (Reported x y) g f = (row-right Greatest (traffic Greatest) x (g Greatest) (f .0), row-right Least (traffic Least) y (g Least) (f .1))

@@ -16,22 +16,23 @@ use Rattle.exact.specs.Bounds.{Within}
 use Rattle.exact.specs.Choice.{if_then_else_}
 use Rattle.exact.specs.Questions.{better, beats}
 use Rattle.exact.specs.declared.Question.{Question}
-use Rattle.exact.specs.declared.Question.the-variants.{Greatest, Least}
 use Rattle.exact.proofs.Bounds.{within-add, within-le, within-pos}
 use Rattle.exact.proofs.Bridge.{by-test}
 use Rattle.exact.proofs.Extremes.{better-first, better-second}
 use Rattle.exact.proofs.Ring.{_⊕_, lit, _≐_, solve}
 use Rattle.model.specs.Job.{Effect, Term}
 use Rattle.model.specs.Lanes.{bit}
-use Rattle.model.specs.Rows.{share, chainValue, names, MayOmit, bestChain}
+use Rattle.model.specs.Bounds.{shareMost, chainMost}
+use Rattle.model.specs.Rows.{share, chainValue, names, Distinct, NamesTo, MayOmit, bestChain}
 use Rattle.model.specs.Answered.{omits}
 use Rattle.model.proofs.Sets.{setNumber, set-below, set-bit, set-number}
 use Rattle.model.specs.Chains.{chainFrom, nextRecord}
 use Rattle.model.specs.Decode.{termsFrom}
-use Rattle.rows.specs.Tables.{RecordsFit, Distinct}
+use Rattle.model.proofs.Few.{few}
+use Rattle.rows.specs.Tables.{RecordsInTables}
+use Rattle.rows.specs.declared.chain.Share.{Share}
 use Rattle.rows.specs.declared.chain.Chained.{Chained}
-use Rattle.rows.specs.declared.chain.ChainedBoth.{ChainedBoth}
-use Rattle.rows.specs.Chained.{termAt, leavesOut, counted, left, leftOf, Extended, bestFor, ChainRight}
+use Rattle.rows.specs.Chained.{termAt, ShareRight, leavesShare, extendedBy, ChainRight}
 use Rattle.rows.proofs.Terms.{terms-next}
 
 -- ---- the first term names its effect, and a later one what it names
@@ -122,21 +123,8 @@ none-left : (e : ℕ) → omits 0 e ≡ false
 none-left zero = refl
 none-left (suc e) = ap (λ (k : ℕ). eqb (k % 2) 1) (div-eq-of-lt (pow-pos e))
 
--- ---- a chain's best value, one term more
-pub best-step : (q : Question) (effect : ℕ → Effect) (t : Term) (rest : List Term) → bestChain q effect (t ∷ rest) ≡ counted q effect t +ℤ bestChain q effect rest
-unfolding bestChain
-best-step q effect t rest = ap (λ (z : ℤ). z +ℤ bestChain q effect rest) (go (effect (t .effect) .optional))
-  where
-    go : (m : Bool) → (if m then better q (pos 0) (share effect t) else share effect t) ≡ (if m && beats q (pos 0) (share effect t) then pos 0 else share effect t)
-    go true = by-test (beats q (pos 0) (share effect t)) (λ b. better q (pos 0) (share effect t) ≡ (if b then pos 0 else share effect t)) (better-first q (pos 0) (share effect t)) (better-second q (pos 0) (share effect t))
-    go false = refl
-
--- every term names an effect from 1 to 16
-abbrev pub Named : List Term → Type 0
-Named [] = Unit {0}
-Named (t ∷ rest) = (1 ≤ t .effect) × (t .effect ≤ 16) × Named rest
-
-pub terms-named : (effects s : List ℕ) → RecordsFit effects s → (most c : ℕ) → 12 * c ≤ length s → Named (termsFrom s most c)
+-- ---- a chain's best value and its omissions, term by term
+pub terms-named : (effects s : List ℕ) → RecordsInTables effects s → (most c : ℕ) → 12 * c ≤ length s → NamesTo 16 (termsFrom s most c)
 unfolding chainFrom
 terms-named effects s fits zero c h = tt
 terms-named effects s fits (suc most) zero h = tt
@@ -148,125 +136,137 @@ record Omitted (q : Question) (effect : ℕ → Effect) (terms : List Term) (n :
   gives : chainValue effect (omits n) terms ≡ bestChain q effect terms
   mayOmit : MayOmit effect terms (omits n)
 
-omitted-right : (q : Question) (effect : ℕ → Effect) (terms : List Term) → Distinct terms → Named terms → Omitted q effect terms (leftOf q effect terms)
-unfolding chainValue bestChain leftOf
-omitted-right q effect [] d m = record { below = omega arith; gives = refl; mayOmit = λ e t. absurd (false≢true (sym (none-left e) ∙ t)) }
-omitted-right q effect (t ∷ rest) d m = more q effect t rest (leftOf q effect rest) (omitted-right q effect rest (d .1) (m .2)) (d .0) (m .0) (m .1)
-  where
-    more : (q : Question) (effect : ℕ → Effect) (t : Term) (rest : List Term) (n : ℕ) → Omitted q effect rest n → names rest (t .effect) ≡ false → 1 ≤ t .effect → t .effect ≤ 16 → Omitted q effect (t ∷ rest) (left q effect t + n)
-    more q effect t rest n r new first most = go (leavesOut q effect t) refl
-      where
-        own : omits n (t .effect) ≡ false
-        own = by-test (omits n (t .effect)) (λ b. b ≡ false) (λ f. absurd (true≢false (sym (r .mayOmit (t .effect) f .0) ∙ new))) (λ _. refl)
+module _ (q : Question) (effect : ℕ → Effect) where
+  -- the term may be left out, and that is better
+  abbrev pub leavesOut : Term → Bool
+  leavesOut t = effect (t .effect) .optional && beats q (pos 0) (share effect t)
 
-        plus : Added n (t .effect)
-        plus = added n (t .effect) (r .below) first most own
+  -- the number of all that a chain leaves out
+  unfoldable pub omissions : List Term → ℕ
+  omissions [] = 0
+  omissions (t ∷ rest) = (if leavesOut t then 2 ^ (t .effect - 1) else 0) + omissions rest
 
-        apart : (d : ℕ) → names rest d ≡ true → ¬ (d ≡ t .effect)
-        apart d k p = true≢false (sym k ∙ ap (names rest) p ∙ new)
-
-        go : (b : Bool) → leavesOut q effect t ≡ b → Omitted q effect (t ∷ rest) ((if b then 2 ^ (t .effect - 1) else 0) + n)
-        go true e = record {
-          below = plus .below;
-          gives =
-              ap₂ _+ℤ_ (ap (λ (b : Bool). if b then pos 0 else share effect t) (plus .own) ∙ sym (ap (λ (b : Bool). if b then pos 0 else share effect t) e))
-              (chain-cong effect (omits (2 ^ (t .effect - 1) + n)) (omits n) rest (λ d k. plus .other d (apart d k)) ∙ r .gives)
-              ∙ sym (best-step q effect t rest);
-          mayOmit = λ d f. elim (ℕ-discrete d (t .effect)) [
-            | yes p ↦ (ap (names (t ∷ rest)) p ∙ names-first t rest, ap (λ (k : ℕ). effect k .optional) p ∙ and-eq-true-iff (effect (t .effect) .optional) (beats q (pos 0) (share effect t)) .0 e .0)
-            | no p ↦ let k = r .mayOmit d (sym (plus .other d p) ∙ f) in (names-later t rest d (k .0), k .1)
-          ];
-        }
-        go false e =
-            let same : n ≡ 0 + n = omega arith in
-            subst (Omitted q effect (t ∷ rest)) same
-            (record {
-              below = r .below;
-              gives =
-                  ap₂ _+ℤ_ (ap (λ (b : Bool). if b then pos 0 else share effect t) own ∙ sym (ap (λ (b : Bool). if b then pos 0 else share effect t) e)) (r .gives)
-                  ∙ sym (best-step q effect t rest);
-              mayOmit = λ d f. let k = r .mayOmit d f in (names-later t rest d (k .0), k .1);
-            })
-
--- ---- the walk: what is in hand, with the best of what is left, is the best of the whole
-pub record Sofar (q : Question) (effect : ℕ → Effect) (whole rest : List Term) (i : ℕ) (x : Chained) : Type 0 where
-  pub value : x .value +ℤ bestChain q effect rest ≡ bestChain q effect whole
-  pub omitted : x .omitted + leftOf q effect rest ≡ leftOf q effect whole
-  pub bound : Within (3000000000000000 * i) (x .value)
-
-pub sofar-none : (q : Question) (effect : ℕ → Effect) (whole : List Term) → Sofar q effect whole whole 0 (record { value = pos 0; omitted = 0 })
-sofar-none q effect whole = record { value = solve 1 (λ z. lit 0 ⊕ z ≐ z) tt (bestChain q effect whole); omitted = omega arith; bound = within-pos _ (omega arith) }
-
-pub sofar-more : (q : Question) (effect : ℕ → Effect) (whole rest : List Term) (t : Term) (i : ℕ) (x y : Chained) → Extended q effect t x y → Sofar q effect whole (t ∷ rest) i x → Sofar q effect whole rest (i + 1) y
-unfolding leftOf
-sofar-more q effect whole rest t i x y e s = record {
-  value =
-      ap (λ (z : ℤ). z +ℤ bestChain q effect rest) (e .value)
-      ∙ solve 3 (λ a b c. (a ⊕ b) ⊕ c ≐ a ⊕ (b ⊕ c)) tt (x .value) (counted q effect t) (bestChain q effect rest)
-      ∙ ap (λ (z : ℤ). x .value +ℤ z) (sym (best-step q effect t rest)) ∙ s .value;
-  omitted = ap (λ (k : ℕ). k + leftOf q effect rest) (e .omitted) ∙ assoc (x .omitted) (left q effect t) (leftOf q effect rest) ∙ s .omitted;
-  bound = subst (Within (3000000000000000 * (i + 1))) (sym (e .value)) (within-le (within-add (s .bound) (e .near)) (omega arith));
-}
-  where
-    assoc : (a b c : ℕ) → a + b + c ≡ a + (b + c)
-    assoc a b c = omega arith
-
-module _ (q : Question) (effect : ℕ → Effect) (whole rest : List Term) (i : ℕ) (x : Chained) (s : Sofar q effect whole rest i x) (d : Distinct whole) (m : Named whole) where
-  -- the next term's bit fits
-  pub sofar-below : x .omitted < 65536
-  sofar-below = let b = omitted-right q effect whole d m .below in omega (arith, s .omitted)
-
-  -- nothing is left
-  pub sofar-all : (most : ℕ) → i ≤ most → rest ≡ [] → ChainRight q effect whole most x
-  unfolding bestChain leftOf
-  sofar-all most h e =
-      let r = omitted-right q effect whole d m in
-      let value = sym (solve 1 (λ z. z ⊕ lit 0 ≐ z) tt (x .value)) ∙ ap (λ (l : List Term). x .value +ℤ bestChain q effect l) (sym e) ∙ s .value in
-      let number = ends (x .omitted) ∙ ap (λ (l : List Term). x .omitted + leftOf q effect l) (sym e) ∙ s .omitted in
-      record {
-        value = value;
-        gives = subst (λ (n : ℕ). chainValue effect (omits n) whole ≡ x .value) (sym number) (r .gives ∙ sym value);
-        mayOmit = subst (λ (n : ℕ). MayOmit effect whole (omits n)) (sym number) (r .mayOmit);
-        bound = within-le (s .bound) (omega arith);
-      }
+  best-step : (t : Term) (rest : List Term) {b : Bool} → leavesOut t ≡ b → bestChain q effect (t ∷ rest) ≡ (if b then pos 0 else share effect t) +ℤ bestChain q effect rest
+  unfolding bestChain
+  best-step t rest e = ap (λ (z : ℤ). z +ℤ bestChain q effect rest) (go (effect (t .effect) .optional) ∙ ap (λ (b : Bool). if b then pos 0 else share effect t) e)
     where
-      ends : (n : ℕ) → n ≡ n + 0
-      ends n = omega arith
+      go : (m : Bool) → (if m then better q (pos 0) (share effect t) else share effect t) ≡ (if m && beats q (pos 0) (share effect t) then pos 0 else share effect t)
+      go true = by-test (beats q (pos 0) (share effect t)) (λ b. better q (pos 0) (share effect t) ≡ (if b then pos 0 else share effect t)) (better-first q (pos 0) (share effect t)) (better-second q (pos 0) (share effect t))
+      go false = refl
 
--- ---- a record of the walk
-pub extended-left : (q : Question) (effect : ℕ → Effect) (t : Term) (x : Chained) (n : ℕ) → n ≡ 2 ^ (t .effect - 1) → leavesOut q effect t ≡ true → Extended q effect t x (record { value = x .value; omitted = x .omitted + n })
-extended-left q effect t x n p e = record {
-  value = sym (ap (λ (b : Bool). x .value +ℤ (if b then pos 0 else share effect t)) e ∙ solve 1 (λ z. z ⊕ lit 0 ≐ z) tt (x .value));
-  omitted = ap (λ (k : ℕ). x .omitted + k) (p ∙ sym (ap (λ (b : Bool). if b then 2 ^ (t .effect - 1) else 0) e));
-  near = subst (λ (b : Bool). Within 3000000000000000 (if b then pos 0 else share effect t)) (sym e) (within-pos 3000000000000000 (omega arith));
-}
+  -- one term more of a chain that names no effect twice
+  omitted-more : (t : Term) (rest : List Term) (n : ℕ) → Omitted q effect rest n → names rest (t .effect) ≡ false → 1 ≤ t .effect → t .effect ≤ 16 → Omitted q effect (t ∷ rest) ((if leavesOut t then 2 ^ (t .effect - 1) else 0) + n)
+  unfolding chainValue
+  omitted-more t rest n r new first most = by-test (leavesOut t) (λ b. Omitted q effect (t ∷ rest) ((if b then 2 ^ (t .effect - 1) else 0) + n)) out kept
+    where
+      own : omits n (t .effect) ≡ false
+      own = by-test (omits n (t .effect)) (λ b. b ≡ false) (λ f. absurd (true≢false (sym (r .mayOmit (t .effect) f .0) ∙ new))) (λ _. refl)
 
-pub extended-kept : (q : Question) (effect : ℕ → Effect) (t : Term) (x : Chained) → Within 3000000000000000 (share effect t) → leavesOut q effect t ≡ false → Extended q effect t x (record { value = x .value +ℤ share effect t; omitted = x .omitted })
-extended-kept q effect t x near e = record {
-  value = sym (ap (λ (b : Bool). x .value +ℤ (if b then pos 0 else share effect t)) e);
-  omitted = same (x .omitted) ∙ sym (ap (λ (b : Bool). x .omitted + (if b then 2 ^ (t .effect - 1) else 0)) e);
-  near = subst (λ (b : Bool). Within 3000000000000000 (if b then pos 0 else share effect t)) (sym e) near;
-}
-  where
-    same : (n : ℕ) → n ≡ n + 0
-    same n = omega arith
+      plus : Added n (t .effect)
+      plus = added n (t .effect) (r .below) first most own
 
--- the walk's start and its next record, as the code counts
-pub sofar-start : (q : Question) (effect : ℕ → Effect) (s : List ℕ) (count c : ℕ) → Sofar q effect (termsFrom s count c) (termsFrom s (count - 0) c) 0 (record { value = pos 0; omitted = 0 })
-sofar-start q effect s count c =
-    let e : count ≡ count - 0 = omega arith in
-    subst (λ (k : ℕ). Sofar q effect (termsFrom s count c) (termsFrom s k c) 0 (record { value = pos 0; omitted = 0 })) e (sofar-none q effect (termsFrom s count c))
+      apart : (d : ℕ) → names rest d ≡ true → ¬ (d ≡ t .effect)
+      apart d k p = true≢false (sym k ∙ ap (names rest) p ∙ new)
 
-pub sofar-next : (q : Question) (effect : ℕ → Effect) (s : List ℕ) (whole : List Term) (count i c n : ℕ) (x y : Chained) → ¬ (c ≡ 0) → i < count → n ≡ nextRecord s c → Extended q effect (termAt s c) x y →
-    Sofar q effect whole (termsFrom s (count - i) c) i x → Sofar q effect whole (termsFrom s (count - (i + 1)) n) (i + 1) y
-sofar-next q effect s whole count i c n x y there l e ext sofar =
-    let less : count - i - 1 ≡ count - (i + 1) = omega arith in
-    subst (λ (k : ℕ). Sofar q effect whole (termsFrom s (count - (i + 1)) k) (i + 1) y) (sym e)
-    (subst (λ (k : ℕ). Sofar q effect whole (termsFrom s k (nextRecord s c)) (i + 1) y) less
-    (sofar-more q effect whole (termsFrom s (count - i - 1) (nextRecord s c)) (termAt s c) i x y ext
-    (subst (λ (r : List Term). Sofar q effect whole r i x) (terms-next s (count - i) c there (λ z. omega arith)) sofar)))
+      out : leavesOut t ≡ true → Omitted q effect (t ∷ rest) (2 ^ (t .effect - 1) + n)
+      out e = record {
+        below = plus .below;
+        gives =
+            ap₂ _+ℤ_ (ap (λ (b : Bool). if b then pos 0 else share effect t) (plus .own)) (chain-cong effect (omits (2 ^ (t .effect - 1) + n)) (omits n) rest (λ d k. plus .other d (apart d k)) ∙ r .gives)
+            ∙ sym (best-step t rest e);
+        mayOmit = λ d f. elim (ℕ-discrete d (t .effect)) [
+          | yes p ↦ (ap (names (t ∷ rest)) p ∙ names-first t rest, ap (λ (k : ℕ). effect k .optional) p ∙ and-eq-true-iff (effect (t .effect) .optional) (beats q (pos 0) (share effect t)) .0 e .0)
+          | no p ↦ let k = r .mayOmit d (sym (plus .other d p) ∙ f) in (names-later t rest d (k .0), k .1)
+        ];
+      }
 
--- both questions
-pub for-both : (effect : ℕ → Effect) (terms : List Term) (most : ℕ) (x : ChainedBoth) → ChainRight Greatest effect terms most (x .greatest) → ChainRight Least effect terms most (x .least) → (q : Question) → ChainRight q effect terms most (bestFor q x)
-for-both effect terms most x g l Greatest = g
-for-both effect terms most x g l Least = l
+      kept : leavesOut t ≡ false → Omitted q effect (t ∷ rest) (0 + n)
+      kept e =
+          let same : n ≡ 0 + n = omega arith in
+          subst (Omitted q effect (t ∷ rest)) same
+          (record {
+            below = r .below;
+            gives = ap₂ _+ℤ_ (ap (λ (b : Bool). if b then pos 0 else share effect t) own) (r .gives) ∙ sym (best-step t rest e);
+            mayOmit = λ d f. let k = r .mayOmit d f in (names-later t rest d (k .0), k .1);
+          })
+
+  omitted-right : (terms : List Term) → Distinct terms → NamesTo 16 terms → Omitted q effect terms (omissions terms)
+  unfolding chainValue bestChain omissions
+  omitted-right [] d m = record { below = omega arith; gives = refl; mayOmit = λ e t. absurd (false≢true (sym (none-left e) ∙ t)) }
+  omitted-right (t ∷ rest) d m = omitted-more t rest (omissions rest) (omitted-right rest (d .1) (m .2)) (d .0) (m .0) (m .1)
+
+  -- ---- the walk: what is in hand after i records, with the best of what is left, is the best of the whole
+  pub record Sofar (whole rest : List Term) (i : ℕ) (x : Chained) : Type 0 where
+    pub value : x .value +ℤ bestChain q effect rest ≡ bestChain q effect whole
+    pub omitted : x .omitted + omissions rest ≡ omissions whole
+    pub near : Within (shareMost * i) (x .value)
+    pub walked : i + length rest ≡ length whole
+
+  sofar-more : (whole rest : List Term) (t : Term) (i : ℕ) (own : Share) (x : Chained) → ShareRight effect t own → Sofar whole (t ∷ rest) i x → Sofar whole rest (i + 1) (extendedBy q own x)
+  unfolding omissions
+  sofar-more whole rest t i own x r s =
+      let same : leavesOut t ≡ leavesShare q own = ap₂ (λ (m : Bool) (z : ℤ). m && beats q (pos 0) z) (sym (r .optional)) (sym (r .value)) in
+      let walked : i + 1 + length rest ≡ length whole = omega (arith, s .walked) in
+      by-test (leavesShare q own) (λ b. Sofar whole rest (i + 1) (if b then record { value = x .value; omitted = x .omitted + own .bit } else record { value = x .value +ℤ own .value; omitted = x .omitted }))
+      (λ e. record {
+        value = ap (λ (z : ℤ). x .value +ℤ z) (solve 1 (λ z. z ≐ lit 0 ⊕ z) tt (bestChain q effect rest) ∙ sym (best-step t rest (same ∙ e))) ∙ s .value;
+        omitted = bits (x .omitted) (own .bit) _ (omissions rest) (r .bit ∙ sym (ap (λ (b : Bool). if b then 2 ^ (t .effect - 1) else 0) (same ∙ e))) ∙ s .omitted;
+        near = within-le (s .near) (omega arith);
+        walked = walked;
+      })
+      (λ e. record {
+        value =
+            solve 3 (λ a b c. (a ⊕ b) ⊕ c ≐ a ⊕ (b ⊕ c)) tt (x .value) (own .value) (bestChain q effect rest)
+            ∙ ap (λ (z : ℤ). x .value +ℤ z) (ap (λ (z : ℤ). z +ℤ bestChain q effect rest) (r .value) ∙ sym (best-step t rest (same ∙ e))) ∙ s .value;
+        omitted = none (x .omitted) _ (omissions rest) (ap (λ (b : Bool). if b then 2 ^ (t .effect - 1) else 0) (same ∙ e)) ∙ s .omitted;
+        near = within-le (within-add (s .near) (r .near)) (omega arith);
+        walked = walked;
+      })
+    where
+      bits : (a b c d : ℕ) → b ≡ c → a + b + d ≡ a + (c + d)
+      bits a b c d e = omega arith
+
+      none : (a c d : ℕ) → c ≡ 0 → a + d ≡ a + (c + d)
+      none a c d e = omega arith
+
+  -- its start and its next record, as the code counts
+  pub sofar-start : (s : List ℕ) (count c : ℕ) → Sofar (termsFrom s count c) (termsFrom s (count - 0) c) 0 (record { value = pos 0; omitted = 0 })
+  sofar-start s count c =
+      let e : count ≡ count - 0 = omega arith in
+      let whole = termsFrom s count c in
+      subst (λ (k : ℕ). Sofar whole (termsFrom s k c) 0 (record { value = pos 0; omitted = 0 })) e
+      (record { value = solve 1 (λ z. lit 0 ⊕ z ≐ z) tt (bestChain q effect whole); omitted = omega arith; near = within-pos _ (omega arith); walked = omega arith })
+
+  pub sofar-next : (s : List ℕ) (whole : List Term) (count i c n : ℕ) (own : Share) (x : Chained) → ¬ (c ≡ 0) → i < count → n ≡ nextRecord s c → ShareRight effect (termAt s c) own →
+      Sofar whole (termsFrom s (count - i) c) i x → Sofar whole (termsFrom s (count - (i + 1)) n) (i + 1) (extendedBy q own x)
+  sofar-next s whole count i c n own x there l e right sofar =
+      let less : count - i - 1 ≡ count - (i + 1) = omega arith in
+      subst (λ (k : ℕ). Sofar whole (termsFrom s (count - (i + 1)) k) (i + 1) (extendedBy q own x)) (sym e)
+      (subst (λ (k : ℕ). Sofar whole (termsFrom s k (nextRecord s c)) (i + 1) (extendedBy q own x)) less
+      (sofar-more whole (termsFrom s (count - i - 1) (nextRecord s c)) (termAt s c) i own x right
+      (subst (λ (r : List Term). Sofar whole r i x) (terms-next s (count - i) c there (λ z. omega arith)) sofar)))
+
+  module _ {whole rest : List Term} {i : ℕ} {x : Chained} (s : Sofar whole rest i x) (d : Distinct whole) (m : NamesTo 16 whole) where
+    -- there is room for a share more, and for its bit
+    pub sofar-near : Within chainMost (x .value)
+    sofar-near = let i16 : i ≤ 16 = omega (arith, s .walked, few 16 whole d m) in within-le (s .near) (omega arith)
+
+    pub sofar-below : x .omitted < 65536
+    sofar-below = let b = omitted-right whole d m .below in omega (arith, s .omitted)
+
+    -- nothing is left
+    pub sofar-all : rest ≡ [] → ChainRight q effect whole x
+    unfolding bestChain omissions
+    sofar-all e =
+        let r = omitted-right whole d m in
+        let value = sym (solve 1 (λ z. z ⊕ lit 0 ≐ z) tt (x .value)) ∙ ap (λ (l : List Term). x .value +ℤ bestChain q effect l) (sym e) ∙ s .value in
+        let number = ends (x .omitted) ∙ ap (λ (l : List Term). x .omitted + omissions l) (sym e) ∙ s .omitted in
+        record {
+          value = value;
+          gives = subst (λ (n : ℕ). chainValue effect (omits n) whole ≡ x .value) (sym number) (r .gives ∙ sym value);
+          mayOmit = subst (λ (n : ℕ). MayOmit effect whole (omits n)) (sym number) (r .mayOmit);
+          near = sofar-near;
+        }
+      where
+        ends : (n : ℕ) → n ≡ n + 0
+        ends n = omega arith

@@ -9,7 +9,7 @@ use Rattle.model.specs.Sections.{effectCount, rowCount, recordCount, wordsDue, 
 use Rattle.model.specs.Decode.{firstRecord}
 use Rattle.model.specs.Refusals.{verdict, chainReturns, chainNamesTwice}
 use Rattle.model.proofs.Accepted.{Clear, clear, section-length, size-fits, header-fits, effect-fits, row-fits, record-fits, chain-clear}
-use Rattle.rows.specs.Tables.{EffectsFit, RecordsFit, RowFits, TablesFit}
+use Rattle.rows.specs.Tables.{EffectsInReach, RecordsInTables, RowInTables, TablesFit}
 use Rattle.rows.proofs.Terms.{distinct-terms}
 
 module _ (b : List ℕ) (patch : ℕ) (accepted : verdict b patch ≡ none) where
@@ -28,10 +28,10 @@ module _ (b : List ℕ) (patch : ℕ) (accepted : verdict b patch ≡ none) wher
   records-long : length (recordSection b) ≡ 12 * recordCount b
   records-long = let e = section-length b (recordsStart b) (recordWords b) (omega (arith, size)) in omega arith
 
-  effects : EffectsFit (effectSection b)
+  effects : EffectsInReach (effectSection b)
   effects e h k = effect-fits b (c .c6) (e - 1) (omega (arith, effects-long)) .value
 
-  records : RecordsFit (effectSection b) (recordSection b)
+  records : RecordsInTables (effectSection b) (recordSection b)
   records r h k =
       let f = record-fits b (c .c6) (r - 1) (omega (arith, records-long)) in
       let most = header-fits b (c .c2) .effects .most in
@@ -43,13 +43,12 @@ module _ (b : List ℕ) (patch : ℕ) (accepted : verdict b patch ≡ none) wher
         next = omega (arith, f .next .most, records-long);
       }
 
-  rows : (r : ℕ) → 1 ≤ r → r ≤ rowCount b → RowFits (recordSection b) (recordCount b) (rowSection b) r
+  rows : (r : ℕ) → 1 ≤ r → r ≤ rowCount b → RowInTables (recordSection b) (recordCount b) (rowSection b) r
   rows r h k =
       let f = row-fits b (c .c6) (r - 1) (omega arith) in
       let same : r - 1 + 1 ≡ r = omega arith in
       let chain = chain-clear b (c .c7) (c .c8) (r - 1) (omega arith) in
       record {
-        limit = (f .limit .least, f .limit .most);
         live = f .live .most;
         factor = f .factor .most;
         first = omega (arith, f .first .most, records-long);
@@ -60,4 +59,4 @@ module _ (b : List ℕ) (patch : ℕ) (accepted : verdict b patch ≡ none) wher
       }
 
   pub tables-fit : TablesFit (effectSection b) (rowSection b) (recordSection b) (rowCount b) (recordCount b)
-  tables-fit = record { effects = effects; records = records; most = header-fits b (c .c2) .records .most; long = omega (arith, rows-long); rows = rows }
+  tables-fit = record { effects = effects; records = records; long = omega (arith, rows-long); rows = rows }

@@ -1,22 +1,20 @@
-// A chain's best value, each effect marked 2 counting or left out.
+// A chain's best value for each question, each effect marked 2 counting or left out.
 use exact::Question;
 ghost use mathlib.Core.Path.{_≡_};
-ghost use mathlib.Core.Bool.{_&&_};
 ghost use Prim.Native.Nat.{_-_, _*_, _^_, _≤_, _<_};
-ghost use lib.IntN.{pos};
 ghost use lib.ListN.{length};
 ghost use Rattle.exact.specs.Bounds.{Within};
-ghost use Rattle.exact.specs.Questions.{beats};
 ghost use Rattle.exact.specs.declared.Question.{Question};
+ghost use Rattle.model.specs.Bounds.{effectMost, shareMost, chainMost};
 ghost use Rattle.model.specs.Decode.{effectAt, termsFrom};
-ghost use Rattle.model.specs.Rows.{share as shareOf};
-ghost use Rattle.rows.specs.Tables.{EffectsFit, RecordsFit, Distinct};
-ghost use Rattle.rows.specs.Chained.{termAt, leavesOut, bestFor, Extended, ChainRight};
+ghost use Rattle.model.specs.Rows.{Distinct};
+ghost use Rattle.rows.specs.Tables.{EffectsInReach, RecordsInTables};
+ghost use Rattle.rows.specs.Chained.{termAt, ShareRight, leavesShare, extendedBy, chainFor, ChainRight};
 
 // Effect e's value in N·U.
 fn effect_value(effects: &[u8], e: usize) -> i64
-    requires { ⌜ EffectsFit (now effects) × (1 ≤ e) × (8 * e ≤ length (now effects)) ⌝ }
-    ensures { λ r. ⌜ (r ≡ effectAt (now (effects .entry)) e .value) × Within 1000000000000 r ⌝ }
+    requires { ⌜ EffectsInReach (now effects) × (1 ≤ e) × (8 * e ≤ length (now effects)) ⌝ }
+    ensures { λ r. ⌜ (r ≡ effectAt (now (effects .entry)) e .value) × Within effectMost r ⌝ }
 {
     1000 * words::word(effects, 2 * (e - 1))
 }
@@ -29,25 +27,6 @@ fn optional(effects: &[u8], e: usize) -> bool
     words::count(effects, 2 * (e - 1) + 1) == 2
 }
 
-// Record c's share: its factor times its effect's value.
-fn share(effects: &[u8], records: &[u8], c: usize) -> i64
-    requires { ⌜ EffectsFit (now effects) × RecordsFit (now effects) (now records) × (1 ≤ c) × (12 * c ≤ length (now records)) ⌝ }
-    ensures { λ r. ⌜ (r ≡ shareOf (effectAt (now (effects .entry))) (termAt (now (records .entry)) c)) × Within 3000000000000000 r ⌝ }
-{
-    (chains::factor(records, c) as i64) * effect_value(effects, chains::effect(records, c))
-}
-
-// Record c is left out: that is allowed and better.
-fn leaves(q: Question, effects: &[u8], records: &[u8], c: usize) -> bool
-    requires { ⌜ EffectsFit (now effects) × RecordsFit (now effects) (now records) × (1 ≤ c) × (12 * c ≤ length (now records)) ⌝ }
-    ensures { λ r. ⌜ r ≡ leavesOut q (effectAt (now (effects .entry))) (termAt (now (records .entry)) c) ⌝ }
-{
-    if optional(effects, chains::effect(records, c)) {
-        return exact::beats(q, 0, share(effects, records, c));
-    }
-    false
-}
-
 // Effect e's bit among those left out, effect 1's the lowest.
 fn bit_of(e: usize) -> u32
     requires { ⌜ (1 ≤ e) × (e ≤ 16) ⌝ }
@@ -56,31 +35,60 @@ fn bit_of(e: usize) -> u32
     1u32 << ((e - 1) as u32)
 }
 
+// A record's share of a row's value: its factor times its effect's value; whether it may be left out, and its effect's bit.
+pub struct Share {
+    pub value: i64,
+    pub optional: bool,
+    pub bit: u32,
+}
+
+// Record c's.
+fn share_of(effects: &[u8], records: &[u8], c: usize) -> Share
+    requires { ⌜ EffectsInReach (now effects) × RecordsInTables (now effects) (now records) × (1 ≤ c) × (12 * c ≤ length (now records)) ⌝ }
+    ensures { λ r. ⌜ ShareRight (effectAt (now (effects .entry))) (termAt (now (records .entry)) c) r ⌝ }
+{
+    let e = chains::effect(records, c);
+    Share {
+        value: (chains::factor(records, c) as i64) * effect_value(effects, e),
+        optional: optional(effects, e),
+        bit: bit_of(e),
+    }
+}
+
+// The share is left out: that is allowed and better.
+fn leaves(q: Question, share: Share) -> bool
+    ensures { λ r. ⌜ r ≡ leavesShare q share ⌝ }
+{
+    if share.optional {
+        return exact::beats(q, 0, share.value);
+    }
+    false
+}
+
 // A chain's best value for a question, and the effects left out, a bit an effect.
 pub struct Chained {
     pub value: i64,
     pub omitted: u32,
 }
 
-// Record c more: it is left out, or counts.
-fn extended(q: Question, effects: &[u8], records: &[u8], c: usize, sofar: Chained) -> Chained
-    requires { ⌜ EffectsFit (now effects) × RecordsFit (now effects) (now records) × (1 ≤ c) × (12 * c ≤ length (now records)) ⌝ }
-    requires { ⌜ Within 1536000000000000000 (sofar .value) × (sofar .omitted < 65536) ⌝ }
-    ensures { λ r. ⌜ Extended q (effectAt (now (effects .entry))) (termAt (now (records .entry)) c) sofar r ⌝ }
+// A share more: it is left out, or counts.
+fn extended(q: Question, share: Share, sofar: Chained) -> Chained
+    requires { ⌜ Within shareMost (share .value) × (share .bit ≤ 32768) × Within chainMost (sofar .value) × (sofar .omitted < 65536) ⌝ }
+    ensures { λ r. ⌜ r ≡ extendedBy q share sofar ⌝ }
 {
-    if leaves(q, effects, records, c) {
+    if leaves(q, share) {
         return Chained {
             value: sofar.value,
-            omitted: sofar.omitted + bit_of(chains::effect(records, c)),
+            omitted: sofar.omitted + share.bit,
         };
     }
     Chained {
-        value: sofar.value + share(effects, records, c),
+        value: sofar.value + share.value,
         omitted: sofar.omitted,
     }
 }
 
-// Of both questions.
+// A chain's best for each question.
 pub struct ChainedBoth {
     pub greatest: Chained,
     pub least: Chained,
@@ -88,8 +96,8 @@ pub struct ChainedBoth {
 
 // Of the chain from a first record, of at most so many records.
 pub(crate) fn best(effects: &[u8], records: &[u8], first: usize, count: usize) -> ChainedBoth
-    requires { ⌜ EffectsFit (now effects) × RecordsFit (now effects) (now records) × (12 * first ≤ length (now records)) × (count ≤ 512) × Distinct (termsFrom (now records) count first) ⌝ }
-    ensures { λ r. ⌜ ((q : Question) → ChainRight q (effectAt (now (effects .entry))) (termsFrom (now (records .entry)) count first) count (bestFor q r)) ⌝ }
+    requires { ⌜ EffectsInReach (now effects) × RecordsInTables (now effects) (now records) × (12 * first ≤ length (now records)) × Distinct (termsFrom (now records) count first) ⌝ }
+    ensures { λ r. ⌜ ((q : Question) → ChainRight q (effectAt (now (effects .entry))) (termsFrom (now (records .entry)) count first) (chainFor q r)) ⌝ }
 {
     let mut greatest = Chained {
         value: 0,
@@ -104,8 +112,9 @@ pub(crate) fn best(effects: &[u8], records: &[u8], first: usize, count: usize) -
         if c == 0 {
             return ChainedBoth { greatest, least };
         }
-        greatest = extended(Question::Greatest, effects, records, c, greatest);
-        least = extended(Question::Least, effects, records, c, least);
+        let own = share_of(effects, records, c);
+        greatest = extended(Question::Greatest, own, greatest);
+        least = extended(Question::Least, own, least);
         c = chains::next(records, c);
     }
     ChainedBoth { greatest, least }

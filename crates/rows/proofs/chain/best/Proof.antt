@@ -1,14 +1,17 @@
 use mathlib.Core.Path.{_≡_}
+use mathlib.Core.List.{[]}
 use Prim.Native.Nat.{ℕ, _-_, _*_, _≤_}
 use native.Mathlib.Nat.{pos-of-ne-zero}
 use native.Mathlib.Omega.{arith}
 use lib.ListN.{length}
+use Rattle.exact.specs.declared.Question.{Question}
 use Rattle.exact.specs.declared.Question.the-variants.{Greatest, Least}
-use Rattle.exact.proofs.Bounds.{within-le}
+use Rattle.exact.proofs.Extremes.{by-question}
 use Rattle.model.specs.Decode.{effectAt, termsFrom}
-use Rattle.rows.specs.Chained.{ChainRight}
+use Rattle.model.specs.Rows.{NamesTo}
+use Rattle.rows.specs.Chained.{chainFor, ChainRight}
 use Rattle.rows.proofs.Terms.{terms-none, terms-spent}
-use Rattle.rows.proofs.Omissions.{Named, terms-named, Sofar, sofar-start, sofar-next, sofar-below, sofar-all, for-both}
+use Rattle.rows.proofs.Omissions.{terms-named, Sofar, sofar-start, sofar-next, sofar-near, sofar-below, sofar-all}
 use Rattle.rows.proofs.chain.best.Statement.{statement}
 use Rattle.rows.proofs.chain.best.Tie as tie
 
@@ -27,34 +30,47 @@ loop-holds c =
     let a = s .args in
     (omega arith, s .pre .2, sofar-start Greatest (effectAt (a .effects .now)) (a .records .now) (a .count) (a .first), sofar-start Least (effectAt (a .effects .now)) (a .records .now) (a .count) (a .first))
 
--- the whole chain's terms name effects
-named : (s : tie.Start Inv-loop μ-loop) → Named (termsFrom (s .args .records .now) (s .args .count) (s .args .first))
-named s = terms-named (s .args .effects .now) (s .args .records .now) (s .pre .1) (s .args .count) (s .args .first) (s .pre .2)
+-- at the loop
+module _ (c : tie.At-loop Inv-loop μ-loop) where
+  abbrev s : tie.Start Inv-loop μ-loop
+  s = c .before .before .before
+
+  named : NamesTo 16 (termsFrom (s .args .records .now) (s .args .count) (s .args .first))
+  named = terms-named (s .args .effects .now) (s .args .records .now) (s .pre .1) (s .args .count) (s .args .first) (s .pre .2)
+
+  -- nothing is left
+  ended : termsFrom (s .args .records .now) (s .args .count - c .loop .counter) (c .loop .c) ≡ [] → (q : Question) →
+      ChainRight q (effectAt (s .args .effects .now)) (termsFrom (s .args .records .now) (s .args .count) (s .args .first)) (chainFor q (record { greatest = c .loop .greatest; least = c .loop .least }))
+  ended none = by-question _ (sofar-all Greatest (effectAt (s .args .effects .now)) (c .loop .inv .2) (s .pre .3) named none) (sofar-all Least (effectAt (s .args .effects .now)) (c .loop .inv .3) (s .pre .3) named none)
 
 returns : tie.Need-returns Inv-loop μ-loop
-returns c =
-    let s = c .before .before .before .before .before in
-    let a = s .args in
-    let l = c .before .before .loop in
-    let none = terms-none (a .records .now) (a .count - l .counter) (l .c) (c .if1 .taken) in
-    for-both _ _ _ _ (sofar-all Greatest _ _ _ _ _ (l .inv .2) (s .pre .4) (named s) (a .count) (l .inv .0) none) (sofar-all Least _ _ _ _ _ (l .inv .3) (s .pre .4) (named s) (a .count) (l .inv .0) none)
+returns c = let l = c .before .before in ended l (terms-none (s l .args .records .now) (s l .args .count - l .loop .counter) (l .loop .c) (c .if1 .taken))
+
+share-of-requires : tie.Need-share-of-requires Inv-loop μ-loop
+share-of-requires c κs = let l = c .before .before in (s l .pre .0, s l .pre .1, pos-of-ne-zero (c .if1 .left), l .loop .inv .1)
 
 extended-requires : tie.Need-extended-requires Inv-loop μ-loop
 extended-requires c κs =
-    let s = c .before .before .before .before .before in
-    let l = c .before .before .loop in
-    let i : l .counter ≤ 511 = omega (arith, s .pre .3) in
-    ((s .pre .0, s .pre .1, pos-of-ne-zero (c .if1 .left), l .inv .1), (within-le (l .inv .2 .bound) (omega arith), sofar-below Greatest _ _ _ _ _ (l .inv .2) (s .pre .4) (named s)))
+    let l = c .before .before .before in
+    let own = c .share-of .ensures in
+    (own .near, own .low, sofar-near Greatest _ (l .loop .inv .2) (s l .pre .3) (named l), sofar-below Greatest _ (l .loop .inv .2) (s l .pre .3) (named l))
 
 extended-requires-2 : tie.Need-extended-requires-2 Inv-loop μ-loop
 extended-requires-2 c κs =
-    let s = c .before .before .before .before .before .before in
-    let l = c .before .before .before .loop in
-    let i : l .counter ≤ 511 = omega (arith, s .pre .3) in
-    ((s .pre .0, s .pre .1, pos-of-ne-zero (c .before .if1 .left), l .inv .1), (within-le (l .inv .3 .bound) (omega arith), sofar-below Least _ _ _ _ _ (l .inv .3) (s .pre .4) (named s)))
+    let l = c .before .before .before .before in
+    let own = c .before .share-of .ensures in
+    (own .near, own .low, sofar-near Least _ (l .loop .inv .3) (s l .pre .3) (named l), sofar-below Least _ (l .loop .inv .3) (s l .pre .3) (named l))
+
+-- past both
+module _ (c : tie.After-extended2 Inv-loop μ-loop) where
+  abbrev else : tie.Else1 Inv-loop μ-loop
+  else = c .before .before .before
+
+  abbrev at : tie.At-loop Inv-loop μ-loop
+  at = else .before .before
 
 next-requires : tie.Need-next-requires Inv-loop μ-loop
-next-requires c κs = (pos-of-ne-zero (c .before .before .if1 .left), c .before .before .before .before .loop .inv .1)
+next-requires c κs = (pos-of-ne-zero (else c .if1 .left), at c .loop .inv .1)
 
 add-counter : tie.Need-add-counter Inv-loop μ-loop
 add-counter c = omega arith
@@ -64,37 +80,20 @@ loop-less c = omega arith
 
 loop-again : tie.Need-loop-again Inv-loop μ-loop
 loop-again c =
-    let s = c .before .before .before .before .before .before .before .before in
-    let a = s .args in
-    let l = c .before .before .before .before .before .loop in
-    let here = c .before .before .before .if1 .left in
+    let d = c .before in
+    let l = at d .loop in
+    let a = s (at d) .args in
+    let here = else d .if1 .left in
+    let own = d .before .before .share-of .ensures in
     let n = c .next .ensures .0 in (
       omega arith,
-      rw n (s .pre .1 (l .c) (pos-of-ne-zero here) (l .inv .1) .next),
-      sofar-next Greatest (effectAt (a .effects .now)) (a .records .now) _ (a .count) (l .counter) (l .c) (c .next .result) _ _ here (omega arith) n (c .before .before .extended .ensures) (l .inv .2),
-      sofar-next Least (effectAt (a .effects .now)) (a .records .now) _ (a .count) (l .counter) (l .c) (c .next .result) _ _ here (omega arith) n (c .before .extended2 .ensures) (l .inv .3),
+      rw n (s (at d) .pre .1 (l .c) (pos-of-ne-zero here) (l .inv .1) .next),
+      rw (d .before .extended .ensures) (sofar-next Greatest (effectAt (a .effects .now)) (a .records .now) _ (a .count) (l .counter) (l .c) (c .next .result) _ (l .greatest) here (omega arith) n own (l .inv .2)),
+      rw (d .extended2 .ensures) (sofar-next Least (effectAt (a .effects .now)) (a .records .now) _ (a .count) (l .counter) (l .c) (c .next .result) _ (l .least) here (omega arith) n own (l .inv .3)),
     )
 
 returns-2 : tie.Need-returns-2 Inv-loop μ-loop
-returns-2 c =
-    let s = c .before .before .before .before in
-    let a = s .args in
-    let l = c .before .loop in
-    let none = terms-spent (a .records .now) (a .count - l .counter) (l .c) (omega arith) in
-    for-both _ _ _ _ (sofar-all Greatest _ _ _ _ _ (l .inv .2) (s .pre .4) (named s) (a .count) (l .inv .0) none) (sofar-all Least _ _ _ _ _ (l .inv .3) (s .pre .4) (named s) (a .count) (l .inv .0) none)
+returns-2 c = let l = c .before in ended l (terms-spent (s l .args .records .now) (s l .args .count - l .loop .counter) (l .loop .c) (omega arith))
 
 pub best-spec : {M : Type 1} → statement M
-best-spec =
-    tie.close
-    (tie.spec
-    Inv-loop
-    μ-loop
-    loop-holds
-    returns
-    extended-requires
-    extended-requires-2
-    next-requires
-    add-counter
-    loop-less
-    loop-again
-    returns-2)
+best-spec = tie.close (tie.spec Inv-loop μ-loop loop-holds returns share-of-requires extended-requires extended-requires-2 next-requires add-counter loop-less loop-again returns-2)

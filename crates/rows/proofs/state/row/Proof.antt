@@ -1,118 +1,66 @@
-use mathlib.Core.Path.{refl, sym, _∙_, ap, subst}
-use Prim.Native.Nat.{ℕ, _+_, _-_, _*_}
+use mathlib.Core.Path.{subst}
+use Prim.Native.Nat.{ℕ}
 use native.Mathlib.Nat.{le-refl}
-use native.Mathlib.Omega.{arith}
-use lib.Dec.{lit<}
-use lib.IntN.{pos}
 use mir.Syntax.{w64}
-use mir.Val.{ofZ}
-use Rattle.exact.specs.Questions.{beats}
-use Rattle.exact.proofs.Held.{Held, known, got, nat, retold, plus, plus!, times, times! }
-use Rattle.model.specs.Words.{countAt}
-use Rattle.model.specs.Decode.{effectAt, liveOf, rowAt}
-use Rattle.rows.specs.Governed.{trafficOf}
-use Rattle.rows.proofs.Loaded.{row-unladen, row-laden}
+use Rattle.exact.specs.declared.Question.{Question}
+use Rattle.exact.specs.declared.Question.the-variants.{Greatest, Least}
+use Rattle.exact.proofs.Extremes.{by-question}
+use Rattle.exact.proofs.Held.{got, told}
+use Rattle.model.specs.Decode.{effectAt, rowAt, termsFrom}
+use Rattle.rows.specs.Tables.{RowInTables}
+use Rattle.rows.specs.Chained.{chainFor, ChainRight}
+use Rattle.rows.proofs.Loaded.{laden-is}
 use borrow.Author.Needs.{needs}
 use Rattle.rows.proofs.state.row.Statement.{statement}
 use Rattle.rows.proofs.state.row.Tie as tie
 
-sub-count : tie.Need-sub-count
-sub-count c = search needs
+first-record-requires : tie.Need-first-record-requires
+first-record-requires c κs = search needs
 
-mul-count : tie.Need-mul-count
-mul-count c = search needs
+-- where the row's first record has been read
+module _ (c : tie.After-first-record) where
+  abbrev s : tie.Start
+  s = c .before .before .before .before
 
-add-count : tie.Need-add-count
-add-count c = search needs
+  fits : RowInTables (s .args .records .now) (s .args .count) (s .args .rows .now) (s .args .r)
+  fits = s .pre .0 .rows (s .args .r) (s .pre .1) (le-refl (s .args .r))
 
-count-requires : tie.Need-count-requires
-count-requires c κs = search needs
+best-requires : tie.Need-best-requires
+best-requires c κs = (s c .pre .0 .effects, s c .pre .0 .records, rw (c .first-record .ensures) (fits c .first), rw (c .first-record .ensures) (fits c .distinct))
 
-sub-count-2 : tie.Need-sub-count-2
-sub-count-2 c = search needs
+-- where its chain has been walked
+module _ (c : tie.After-best) where
+  abbrev at : tie.Start
+  at = s (c .before)
 
-mul-count-2 : tie.Need-mul-count-2
-mul-count-2 c = search needs
+  chained : (q : Question) → ChainRight q (effectAt (at .args .effects .now)) (rowAt (at .args .rows .now) (at .args .records .now) (at .args .count) (at .args .r) .chain) (chainFor q (c .best .result))
+  chained q =
+      subst (λ (k : ℕ). ChainRight q (effectAt (at .args .effects .now)) (termsFrom (at .args .records .now) (at .args .count) k) (chainFor q (c .best .result)))
+      (c .before .first-record .ensures) (c .best .ensures q)
 
-add-count-2 : tie.Need-add-count-2
-add-count-2 c = search needs
+loaded-requires : tie.Need-loaded-requires
+loaded-requires c κs = let f = fits (c .before) in (at c .pre .1, at c .pre .0 .long, f .live, f .factor, at c .pre .2 Greatest)
 
-count-requires-2 : tie.Need-count-requires-2
-count-requires-2 c κs = search needs
+loaded-requires-2 : tie.Need-loaded-requires-2
+loaded-requires-2 c κs = let b = c .before in let f = fits (b .before) in (at b .pre .1, at b .pre .0 .long, f .live, f .factor, at b .pre .2 Least)
 
-cast-loaded : tie.Need-cast-loaded
-cast-loaded c = search needs
+laden-requires : tie.Need-laden-requires
+laden-requires c κs = let l = c .before .loaded in (chained (c .before .before) Greatest .near, told (got w64 (l .ok) (l .ensures)) .1)
 
-traffic-requires : tie.Need-traffic-requires
-traffic-requires c κs =
-    let s = c .before .before .before .before .before in
-    (rw (c .before .count .ensures .0) (s .pre .0 .0 .rows (s .args .r) (s .pre .0 .1) (le-refl (s .args .r)) .live), s .pre .0 .2)
-
--- the factor, and the row's traffic
-factor : (c : tie.After-count2) → Held w64 (c .count2 .result) 3000 (pos (countAt (c .before .before .before .before .before .args .rows .now) (4 * (c .before .before .before .before .before .args .r - 1) + 2)))
-factor c =
-    let s = c .before .before .before .before .before in
-    let l = s .pre .0 .0 .rows (s .args .r) (s .pre .0 .1) (le-refl (s .args .r)) .factor in
-    subst (λ (k : ℕ). Held w64 (c .count2 .result) 3000 (pos k)) (c .count2 .ensures .0) (nat w64 3000 (rw (c .count2 .ensures .0) l) (omega arith))
-
-value : (c : tie.After-traffic) → Held w64 (ofZ w64 (c .traffic .result)) 1000000000000 (trafficOf (c .before .before .before .before .before .before .args .live) (liveOf (countAt (c .before .before .before .before .before .before .args .rows .now) (4 * (c .before .before .before .before .before .before .args .r - 1) + 1))))
-value c =
-    let a = c .before .before .before .before .before .before .args in
-    retold (got w64 (c .traffic .ok) (c .traffic .ensures)) (ap (λ (k : ℕ). trafficOf (a .live) (liveOf k)) (c .before .before .count .ensures .0))
-
-mul-loaded : tie.Need-mul-loaded
-mul-loaded c = times! (factor (c .before)) (value c) (lit< tt)
-
-beats-requires : tie.Need-beats-requires
-beats-requires c κs = search needs
+laden-requires-2 : tie.Need-laden-requires-2
+laden-requires-2 c κs = let l = c .before .loaded2 in (chained (c .before .before .before) Least .near, told (got w64 (l .ok) (l .ensures)) .1)
 
 returns : tie.Need-returns
 returns c =
-    let s = c .before .before .before .before .before .before .before .before .before in
-    let a = s .args in
-    let b = c .before .before in
-    let load = times (factor (b .before .before)) (value (b .before)) (lit< tt) in (
-      refl,
-      rw (known w64 (s .pre .1 .bound) (omega (arith, s .pre .0 .0 .most)) .is)
-          (row-unladen (a .q) (effectAt (a .effects .now)) (rowAt (a .rows .now) (a .records .now) (a .count)) (a .live) (a .r) (a .count) (a .chain) (s .pre .1)
-          (ap (beats (a .q) (pos 0)) (sym (load .is)) ∙ sym (b .beats .ensures) ∙ c .before .if1 .taken)),
-    )
-
-add-t15 : tie.Need-add-t15
-add-t15 c =
-    let s = c .before .before .before .before .before .before .before .before .before .before in
-    let b = c .before .before .before in
-    let load = times (factor (b .before .before)) (value (b .before)) (lit< tt) in
-    plus! (known w64 (s .pre .1 .bound) (omega (arith, s .pre .0 .0 .most))) load (omega (arith, s .pre .0 .0 .most))
-
-returns-2 : tie.Need-returns-2
-returns-2 c =
-    let s = c .before .before .before .before .before .before .before .before .before .before in
-    let a = s .args in
-    let b = c .before .before .before in
-    let load = times (factor (b .before .before)) (value (b .before)) (lit< tt) in (
-      refl,
-      rw (plus (known w64 (s .pre .1 .bound) (omega (arith, s .pre .0 .0 .most))) load (omega (arith, s .pre .0 .0 .most)) .is)
-          (row-laden (a .q) (effectAt (a .effects .now)) (rowAt (a .rows .now) (a .records .now) (a .count)) (a .live) (a .r) (a .count) (a .chain) (s .pre .1)
-          (ap (beats (a .q) (pos 0)) (sym (load .is)) ∙ sym (b .beats .ensures) ∙ c .before .before .if1 .left)),
-    )
+    let d = c .before .before .before .before in
+    let a = at d .args in
+    let effect = effectAt (a .effects .now) in
+    let row = rowAt (a .rows .now) (a .records .now) (a .count) in
+    let g = c .before .before .before .loaded in
+    let l = c .before .before .loaded2 in
+    by-question _
+    (laden-is Greatest effect row (a .live .greatest) (a .r) _ (chained d Greatest) (c .before .laden .ensures) (got w64 (g .ok) (g .ensures) .is))
+    (laden-is Least effect row (a .live .least) (a .r) _ (chained d Least) (c .laden2 .ensures) (got w64 (l .ok) (l .ensures) .is))
 
 pub row-spec : {M : Type 1} → statement M
-row-spec =
-    tie.close
-    (tie.spec
-    sub-count
-    mul-count
-    add-count
-    count-requires
-    sub-count-2
-    mul-count-2
-    add-count-2
-    count-requires-2
-    cast-loaded
-    traffic-requires
-    mul-loaded
-    beats-requires
-    returns
-    add-t15
-    returns-2)
+row-spec = tie.close (tie.spec first-record-requires best-requires loaded-requires loaded-requires-2 laden-requires laden-requires-2 returns)
