@@ -1,8 +1,9 @@
 -- What a chain's best value comes with.
-use Prim.Native.Nat.{ℕ, _+_, _-_, _^_, _≤_}
+use Prim.Native.Nat.{ℕ, _-_, _^_, _≤_}
 use mathlib.Core.Path.{_≡_}
 use mathlib.Core.Bool.{Bool, _&&_}
-use mathlib.Core.List.{List, [], _∷_}
+use mathlib.Core.List.{List}
+use lib.Bits.{bitOr}
 use lib.IntN.{pos, _+ℤ_}
 use Rattle.exact.specs.Bounds.{Within}
 use Rattle.exact.specs.Choice.{if_then_else_}
@@ -27,9 +28,10 @@ pub record ShareRight (effect : ℕ → Effect) (t : Term) (x : Share) : Type 0 
   pub value : x .value ≡ share effect t
   pub optional : x .optional ≡ effect (t .effect) .optional
   pub bit : x .bit ≡ 2 ^ (t .effect - 1)
-  -- what they may come to
+  -- there is no effect 0
+  pub first : 1 ≤ t .effect
+  -- what it may come to
   pub near : Within shareMost (x .value)
-  pub low : x .bit ≤ 32768
 
 -- the share may be left out, and that is better
 abbrev pub leavesShare : Question → Share → Bool
@@ -39,7 +41,7 @@ leavesShare q x = x .optional && beats q (pos 0) (x .value)
 abbrev pub extendedBy : Question → Share → Chained → Chained
 extendedBy q x sofar =
     if leavesShare q x
-    then record { value = sofar .value; omitted = sofar .omitted + x .bit }
+    then record { value = sofar .value; omitted = bitOr (sofar .omitted) (x .bit) }
     else record { value = sofar .value +ℤ x .value; omitted = sofar .omitted }
 
 -- a question's

@@ -1,7 +1,7 @@
 // A chain's best value for each question, each effect marked 2 counting or left out.
 use exact::Question;
 ghost use mathlib.Core.Path.{_≡_};
-ghost use Prim.Native.Nat.{_-_, _*_, _^_, _≤_, _<_};
+ghost use Prim.Native.Nat.{_-_, _*_, _^_, _≤_};
 ghost use lib.ListN.{length};
 ghost use Rattle.exact.specs.Bounds.{Within};
 ghost use Rattle.exact.specs.declared.Question.{Question};
@@ -73,13 +73,13 @@ pub struct Chained {
 
 // A share more: it is left out, or counts.
 fn extended(q: Question, share: Share, sofar: Chained) -> Chained
-    requires { ⌜ Within shareMost (share .value) × (share .bit ≤ 32768) × Within chainMost (sofar .value) × (sofar .omitted < 65536) ⌝ }
+    requires { ⌜ Within shareMost (share .value) × Within chainMost (sofar .value) ⌝ }
     ensures { λ r. ⌜ r ≡ extendedBy q share sofar ⌝ }
 {
     if leaves(q, share) {
         return Chained {
             value: sofar.value,
-            omitted: sofar.omitted + share.bit,
+            omitted: sofar.omitted | share.bit,
         };
     }
     Chained {

@@ -11,7 +11,7 @@ use Rattle.model.specs.Decode.{effectAt, termsFrom}
 use Rattle.model.specs.Rows.{NamesTo}
 use Rattle.rows.specs.Chained.{chainFor, ChainRight}
 use Rattle.rows.proofs.Terms.{terms-none, terms-spent}
-use Rattle.rows.proofs.Omissions.{terms-named, Sofar, sofar-start, sofar-next, sofar-near, sofar-below, sofar-all}
+use Rattle.rows.proofs.Omissions.{terms-named, Sofar, sofar-start, sofar-next, sofar-near, sofar-all}
 use Rattle.rows.proofs.chain.best.Statement.{statement}
 use Rattle.rows.proofs.chain.best.Tie as tie
 
@@ -52,14 +52,12 @@ share-of-requires c κs = let l = c .before .before in (s l .pre .0, s l .pre .1
 extended-requires : tie.Need-extended-requires Inv-loop μ-loop
 extended-requires c κs =
     let l = c .before .before .before in
-    let own = c .share-of .ensures in
-    (own .near, own .low, sofar-near Greatest _ (l .loop .inv .2) (s l .pre .3) (named l), sofar-below Greatest _ (l .loop .inv .2) (s l .pre .3) (named l))
+    (c .share-of .ensures .near, sofar-near Greatest _ (l .loop .inv .2) (s l .pre .3) (named l))
 
 extended-requires-2 : tie.Need-extended-requires-2 Inv-loop μ-loop
 extended-requires-2 c κs =
     let l = c .before .before .before .before in
-    let own = c .before .share-of .ensures in
-    (own .near, own .low, sofar-near Least _ (l .loop .inv .3) (s l .pre .3) (named l), sofar-below Least _ (l .loop .inv .3) (s l .pre .3) (named l))
+    (c .before .share-of .ensures .near, sofar-near Least _ (l .loop .inv .3) (s l .pre .3) (named l))
 
 -- past both
 module _ (c : tie.After-extended2 Inv-loop μ-loop) where

@@ -1,9 +1,8 @@
 use mathlib.Core.Path.{_≡_, refl, _∙_, ap, subst}
-use Prim.Native.Nat.{ℕ, _-_, _^_, _≤_}
+use Prim.Native.Nat.{ℕ, _-_, _^_}
 use native.Mathlib.Omega.{arith}
 use lib.Dec.{lit<}
 use lib.IntN.{pos}
-use lib.Pow.{pow-mono}
 use mir.Syntax.{w64}
 use mir.Val.{ofZ}
 use Rattle.exact.proofs.Held.{Held, got, nat, retold, times, times! }
@@ -64,16 +63,13 @@ returns : tie.Need-returns
 returns c =
     let d = b (c .before .before) in
     let product = times (factor (c .before .before)) (value (c .before .before)) (lit< tt) in
-    let bit = c .bit-of .ensures ∙ ap (λ (k : ℕ). 2 ^ (k - 1)) (e d) in
-    let most = fits d .most in
-    let small : recordEffect (s d .args .records .now) (s d .args .c) - 1 ≤ 15 = omega arith in
     rw (product .is)
     (record {
       value = refl;
       optional = c .before .optional .ensures ∙ ap (λ (k : ℕ). effectAt (s d .args .effects .now) k .optional) (e d);
-      bit = bit;
+      bit = c .bit-of .ensures ∙ ap (λ (k : ℕ). 2 ^ (k - 1)) (e d);
+      first = fits d .effect;
       near = product .near;
-      low = rw bit (pow-mono small);
     })
 
 pub share-of-spec : {M : Type 1} → statement M
