@@ -9,7 +9,7 @@ use Rattle.model.specs.Job.{Job, Limit, service, ultimate, Live, noTraffic, nor
 use Rattle.model.specs.Line.{patchBytes}
 use Rattle.model.specs.Traffic.{trafficValue}
 use Rattle.model.specs.Arrangements.{arranged}
-use Rattle.model.specs.Answered.{positionOf, reportedEffect, extremeOf, PositionRight, TrafficRight, StateRight, AccountRight}
+use Rattle.model.specs.Answered.{positionOf, reportedEffect, PositionRight, TrafficRight, StateRight, AccountRight}
 use Rattle.model.specs.declared.Sense.{Sense}
 use Rattle.model.specs.declared.Sense.the-variants.{Raising, Lowering}
 use Rattle.model.specs.declared.Extreme.{Extreme}

@@ -22,7 +22,7 @@ use Rattle.model.specs.declared.State.the-variants.{Absent, Reported}
 use Rattle.rows.specs.Tables.{TablesFit}
 use Rattle.rows.specs.declared.state.RowBoth.{RowBoth}
 use Rattle.rows.specs.declared.state.Found.{Found}
-use Rattle.rows.specs.Governed.{RowRight, rowFor, governs, governed, found, laterRow, withRow, foundFor, Leads, FoundRight, StateRow, stateBy, StateFound}
+use Rattle.rows.specs.Governed.{RowRight, rowFor, governs, governed, found, laterRow, withRow, Leads, FoundRight, stateBy, StateFound}
 
 -- the first rows of tables that fit
 pub tables-to : {effects rows records : List ℕ} {n count : ℕ} (m : ℕ) → TablesFit effects rows records n count → m ≤ n → TablesFit effects rows records m count

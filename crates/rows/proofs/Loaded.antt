@@ -5,7 +5,7 @@ use Prim.Native.Nat.{ℕ, _≤_}
 use native.Mathlib.Omega.{arith}
 use lib.IntN.{ℤ, pos, _+ℤ_, _*ℤ_}
 use Rattle.exact.specs.Choice.{if_then_else_}
-use Rattle.exact.specs.Questions.{beats}
+use Rattle.exact.specs.Questions.{beats, extreme}
 use Rattle.exact.specs.declared.Question.{Question}
 use Rattle.exact.specs.declared.Question.the-variants.{Greatest, Least}
 use Rattle.exact.proofs.Bridge.{by-test}
@@ -30,8 +30,8 @@ kind-overload v k e = rw e refl
 pub kind-none : (v : LiveValues) (k : ℕ) → k ≤ 2 → ¬ (k ≡ 1) → ¬ (k ≡ 2) → liveValue v (liveOf k) ≡ pos 0
 kind-none v k h f g = let e : k ≡ 0 = omega arith in rw e refl
 
--- row r by its chain's best and its traffic
-module _ (q : Question) (effect : ℕ → Effect) (row : ℕ → Row) (v : LiveValues) (r : ℕ) (x : Chained) (right : ChainRight q effect (row r .chain) x) where
+-- row r, of one chain, by its chain's best and its traffic
+module _ (q : Question) (effect : ℕ → Effect) (row : ℕ → Row) (v : LiveValues) (r : ℕ) (x : Chained) (one : row r .others ≡ 0) (right : ChainRight q effect (row r .chain 0) x) where
   abbrev own : ℤ
   own = pos (row r .factor) *ℤ liveValue v (row r .live)
 
@@ -40,6 +40,9 @@ module _ (q : Question) (effect : ℕ → Effect) (row : ℕ → Row) (v : LiveV
 
   zero-times : pos (row r .factor) *ℤ pos 0 ≡ pos 0
   zero-times = solve 1 (λ f. f ⊗ lit 0 ≐ lit 0) tt (pos (row r .factor))
+
+  best : bestChain q effect (row r .chain 0) ≡ extreme q (row r .others) (λ a. bestChain q effect (row r .chain a))
+  best = ap (λ (n : ℕ). extreme q n (λ a. bestChain q effect (row r .chain a))) (sym one)
 
   never : (q : Question) → beats q (pos 0) (pos 0) ≡ false
   never Greatest = refl
@@ -51,13 +54,13 @@ module _ (q : Question) (effect : ℕ → Effect) (row : ℕ → Row) (v : LiveV
       by-test (beats q (pos 0) own)
       (λ b. RowRight q effect row (liveValue v) (if b then record { value = x .value; row = r; omitted = x .omitted; unladen = true } else record { value = x .value +ℤ own; row = r; omitted = x .omitted; unladen = false }))
       (λ b. record {
-        value = right .value ∙ sym (ap (λ (z : ℤ). bestChain q effect (row r .chain) +ℤ z) (better-first q (pos 0) own b) ∙ zero-last (bestChain q effect (row r .chain)));
+        value = sym (zero-last (x .value)) ∙ ap₂ _+ℤ_ (right .value ∙ best) (sym (better-first q (pos 0) own b));
         mayOmit = right .mayOmit;
         gives = ap₂ _+ℤ_ (right .gives) zero-times ∙ zero-last (x .value);
         laden = λ e. absurd (true≢false (sym b ∙ ap (beats q (pos 0)) (ap (λ (l : Live). pos (row r .factor) *ℤ liveValue v l) e ∙ zero-times) ∙ never q));
       })
       (λ b. record {
-        value = ap₂ _+ℤ_ (right .value) (sym (better-second q (pos 0) own b));
+        value = ap₂ _+ℤ_ (right .value ∙ best) (sym (better-second q (pos 0) own b));
         mayOmit = right .mayOmit;
         gives = ap (λ (z : ℤ). z +ℤ own) (right .gives);
         laden = λ _. refl;

@@ -37,14 +37,14 @@ pub record ShareRight (effect : ℕ → Effect) (t : Term) (x : Share) : Type 0 
 abbrev pub leavesShare : Question → Share → Bool
 leavesShare q x = x .optional && beats q (pos 0) (x .value)
 
--- a share more: its bit where it is left out, else its value
+-- a chain's best with one share more: its bit where it is left out, else its value
 abbrev pub extendedBy : Question → Share → Chained → Chained
 extendedBy q x sofar =
     if leavesShare q x
     then record { value = sofar .value; omitted = bitOr (sofar .omitted) (x .bit) }
     else record { value = sofar .value +ℤ x .value; omitted = sofar .omitted }
 
--- a question's
+-- a question's best
 abbrev pub chainFor : Question → ChainedBoth → Chained
 chainFor Greatest x = x .greatest
 chainFor Least x = x .least

@@ -40,11 +40,11 @@ liveFor Least v = v .least
 abbrev pub trafficOf : LiveBoth → Question → Live → ℤ
 trafficOf v q = liveValue (liveFor q v)
 
--- both are within reach of the arithmetic
+-- the values of both live kinds are within reach of the arithmetic
 abbrev pub PairFits : LiveValues → Type 0
 PairFits v = Within trafficMost (v .normal) × Within trafficMost (v .overload)
 
--- for each question
+-- the values of both questions are
 abbrev pub LiveFits : LiveBoth → Type 0
 LiveFits v = (q : Question) → PairFits (liveFor q v)
 
@@ -61,11 +61,11 @@ abbrev pub rowFor : Question → RowBoth → Governing
 rowFor Greatest x = x .greatest
 rowFor Least x = x .least
 
--- a row's value is right: it equals the model's, its omissions are allowed and, with the traffic where it counts, give it exactly; where the row has no traffic, none is left out
+-- a row's value is right: it equals the model's, its omissions are allowed by its first alternative and, with the traffic where it counts, give it exactly; where the row has no traffic, none is left out
 pub record RowRight (q : Question) (effect : ℕ → Effect) (row : ℕ → Row) (traffic : Live → ℤ) (x : Governing) : Type 0 where
   pub value : x .value ≡ bestRow q effect traffic (row (x .row))
-  pub mayOmit : MayOmit effect (row (x .row) .chain) (omits (x .omitted))
-  pub gives : rowValue effect (row (x .row)) (omits (x .omitted)) (if x .unladen then pos 0 else traffic (row (x .row) .live)) ≡ x .value
+  pub mayOmit : MayOmit effect (row (x .row) .chain 0) (omits (x .omitted))
+  pub gives : rowValue effect (row (x .row)) 0 (omits (x .omitted)) (if x .unladen then pos 0 else traffic (row (x .row) .live)) ≡ x .value
   pub laden : row (x .row) .live ≡ noTraffic → x .unladen ≡ false
 
 -- ---- the governing rows
@@ -85,6 +85,7 @@ found x = if eqb (x .row) 0 then none else some (governed x)
 abbrev pub laterRow : Question → Governing → Governing → Governing
 laterRow q sofar next = if eqb (sofar .row) 0 then next else (if beats q (next .value) (sofar .value) then next else sofar)
 
+-- for each question by itself
 abbrev pub laterRows : RowBoth → RowBoth → RowBoth
 laterRows sofar next = record { greatest = laterRow Greatest (sofar .greatest) (next .greatest); least = laterRow Least (sofar .least) (next .least) }
 
@@ -103,15 +104,16 @@ pub record Leads (q : Question) (effect : ℕ → Effect) (row : ℕ → Row) (t
   pub is : governs q effect row traffic limit n ≡ found x
   pub right : eqb (x .row) 0 ≡ false → RowRight q effect row traffic x
 
--- of each limit state for each question
+-- what was found is the governing row of each limit state for each question
 abbrev pub FoundRight : (effect : ℕ → Effect) → (row : ℕ → Row) → (traffic : Question → Live → ℤ) → ℕ → Found → Type 0
 FoundRight effect row traffic n x = (limit : Limit) (q : Question) → Leads q effect row (traffic q) limit n (rowFor q (foundFor limit x))
 
 -- ---- the limit states
--- none where there is no row
+-- a limit state by its governing rows: none where there is no row
 abbrev pub stateBy : RowBoth → State
 stateBy x = if eqb (x .greatest .row) 0 then Absent else Reported (x .greatest) (x .least)
 
+-- one of the two
 abbrev pub stateFor : Limit → LimitStates → State
 stateFor service x = x .service
 stateFor ultimate x = x .ultimate

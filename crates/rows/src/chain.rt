@@ -42,7 +42,7 @@ pub struct Share {
     pub bit: u32,
 }
 
-// Record c's.
+// Record c's share.
 fn share_of(effects: &[u8], records: &[u8], c: usize) -> Share
     requires { ⌜ EffectsInReach (now effects) × RecordsInTables (now effects) (now records) × (1 ≤ c) × (12 * c ≤ length (now records)) ⌝ }
     ensures { λ r. ⌜ ShareRight (effectAt (now (effects .entry))) (termAt (now (records .entry)) c) r ⌝ }
@@ -71,7 +71,7 @@ pub struct Chained {
     pub omitted: u32,
 }
 
-// A share more: it is left out, or counts.
+// A chain's best with one share more, which is left out or counts.
 fn extended(q: Question, share: Share, sofar: Chained) -> Chained
     requires { ⌜ Within shareMost (share .value) × Within chainMost (sofar .value) ⌝ }
     ensures { λ r. ⌜ r ≡ extendedBy q share sofar ⌝ }
@@ -94,7 +94,7 @@ pub struct ChainedBoth {
     pub least: Chained,
 }
 
-// Of the chain from a first record, of at most so many records.
+// The best of the chain from a first record, of at most so many records.
 pub(crate) fn best(effects: &[u8], records: &[u8], first: usize, count: usize) -> ChainedBoth
     requires { ⌜ EffectsInReach (now effects) × RecordsInTables (now effects) (now records) × (12 * first ≤ length (now records)) × Distinct (termsFrom (now records) count first) ⌝ }
     ensures { λ r. ⌜ ((q : Question) → ChainRight q (effectAt (now (effects .entry))) (termsFrom (now (records .entry)) count first) (chainFor q r)) ⌝ }

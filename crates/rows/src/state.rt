@@ -5,7 +5,7 @@ use exact::Question;
 use model::Governing;
 use model::State;
 ghost use mathlib.Core.Path.{_≡_};
-ghost use Prim.Native.Nat.{_+_, _-_, _*_, _≤_};
+ghost use Prim.Native.Nat.{_+_, _-_, _*_, _≤_, _<_};
 ghost use lib.Dec.{eqb};
 ghost use lib.IntN.{pos, _*ℤ_};
 ghost use lib.ListN.{length};
@@ -18,13 +18,13 @@ ghost use Rattle.model.specs.Job.{Limit};
 ghost use Rattle.rows.specs.Tables.{TablesFit};
 ghost use Rattle.rows.specs.Governed.{liveValue, trafficOf, PairFits, LiveFits, ladenRow, rowFor, RowRight, laterRow, laterRows, withRow, FoundRight, stateBy, stateFor, StateFound};
 
-// The best traffic value of each live kind for a question, in N·U.
+// The best traffic value of each live kind for one question, in N·U.
 pub struct LiveValues {
     pub normal: i64,
     pub overload: i64,
 }
 
-// Of both questions.
+// The best traffic values for both questions.
 pub struct LiveBoth {
     pub greatest: LiveValues,
     pub least: LiveValues,
@@ -44,13 +44,21 @@ fn traffic(kind: usize, live: LiveValues) -> i64
     0
 }
 
+// Row r's word j, from 0, as a count.
+fn word(rows: &[u8], r: usize, j: usize) -> usize
+    requires { ⌜ (1 ≤ r) × (16 * r ≤ length (now rows)) × (j < 4) ⌝ }
+    ensures { λ x. ⌜ (x ≡ countAt (now (rows .entry)) (4 * (r - 1) + j)) × (x ≤ 2147483648) ⌝ }
+{
+    words::count(rows, 4 * (r - 1) + j)
+}
+
 // Row r's traffic: its live factor times the value of its live kind.
 fn loaded(rows: &[u8], r: usize, live: LiveValues) -> i64
     requires { ⌜ (1 ≤ r) × (16 * r ≤ length (now rows)) × (countAt (now rows) (4 * (r - 1) + 1) ≤ 2) × (countAt (now rows) (4 * (r - 1) + 2) ≤ 3000) × PairFits live ⌝ }
     ensures { λ x. ⌜ (x ≡ pos (countAt (now (rows .entry)) (4 * (r - 1) + 2)) *ℤ liveValue live (liveOf (countAt (now (rows .entry)) (4 * (r - 1) + 1)))) × Within shareMost x ⌝ }
 {
-    let kind = words::count(rows, 4 * (r - 1) + 1);
-    let factor = words::count(rows, 4 * (r - 1) + 2);
+    let kind = word(rows, r, 1);
+    let factor = word(rows, r, 2);
     (factor as i64) * traffic(kind, live)
 }
 
@@ -86,10 +94,10 @@ fn first_record(rows: &[u8], r: usize) -> usize
     requires { ⌜ (1 ≤ r) × (16 * r ≤ length (now rows)) ⌝ }
     ensures { λ f. ⌜ f ≡ firstRecord (now (rows .entry)) r ⌝ }
 {
-    words::count(rows, 4 * (r - 1) + 3)
+    word(rows, r, 3)
 }
 
-// Row r.
+// Row r's best value for each question.
 fn row(
     effects: &[u8],
     rows: &[u8],
@@ -123,7 +131,7 @@ fn later(q: Question, sofar: Governing, next: Governing) -> Governing
     sofar
 }
 
-// For each question.
+// The later row for each question by itself.
 fn later_both(sofar: RowBoth, next: RowBoth) -> RowBoth
     ensures { λ x. ⌜ x ≡ laterRows sofar next ⌝ }
 {
@@ -133,13 +141,13 @@ fn later_both(sofar: RowBoth, next: RowBoth) -> RowBoth
     }
 }
 
-// The governing rows of each limit state so far.
+// The governing rows so far, of each limit state for each question.
 pub struct Found {
     pub service: RowBoth,
     pub ultimate: RowBoth,
 }
 
-// A row more, of the service state or of the ultimate.
+// What is found with one row more, which is of the service state or of the ultimate.
 fn with_row(service: bool, sofar: Found, next: RowBoth) -> Found
     ensures { λ x. ⌜ x ≡ withRow service sofar next ⌝ }
 {
@@ -162,10 +170,10 @@ fn of_service(rows: &[u8], r: usize) -> bool
     requires { ⌜ (1 ≤ r) × (16 * r ≤ length (now rows)) ⌝ }
     ensures { λ b. ⌜ b ≡ eqb (countAt (now (rows .entry)) (4 * (r - 1))) 1 ⌝ }
 {
-    words::count(rows, 4 * (r - 1)) == 1
+    word(rows, r, 0) == 1
 }
 
-// The governing rows among so many.
+// The governing rows among rows 1 to n.
 fn governing(
     effects: &[u8],
     rows: &[u8],
@@ -210,13 +218,13 @@ fn state(rows: RowBoth) -> State
     State::Reported { greatest, least }
 }
 
-// Both limit states.
+// The two limit states.
 pub struct LimitStates {
     pub service: State,
     pub ultimate: State,
 }
 
-// Of so many rows, with chains of at most `count` records.
+// The limit states of n rows, with chains of at most `count` records.
 pub fn states(
     effects: &[u8],
     rows: &[u8],

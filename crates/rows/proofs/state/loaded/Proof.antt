@@ -14,29 +14,11 @@ use borrow.Author.Needs.{needs}
 use Rattle.rows.proofs.state.loaded.Statement.{statement}
 use Rattle.rows.proofs.state.loaded.Tie as tie
 
-sub-count : tie.Need-sub-count
-sub-count c = search needs
+word-requires : tie.Need-word-requires
+word-requires c κs = search needs
 
-mul-count : tie.Need-mul-count
-mul-count c = search needs
-
-add-count : tie.Need-add-count
-add-count c = search needs
-
-count-requires : tie.Need-count-requires
-count-requires c κs = search needs
-
-sub-count-2 : tie.Need-sub-count-2
-sub-count-2 c = search needs
-
-mul-count-2 : tie.Need-mul-count-2
-mul-count-2 c = search needs
-
-add-count-2 : tie.Need-add-count-2
-add-count-2 c = search needs
-
-count-requires-2 : tie.Need-count-requires-2
-count-requires-2 c κs = search needs
+word-requires-2 : tie.Need-word-requires-2
+word-requires-2 c κs = search needs
 
 cast-result : tie.Need-cast-result
 cast-result c = search needs
@@ -49,13 +31,13 @@ module _ (c : tie.After-traffic) where
   abbrev s : tie.Start
   s = c .before .before .before .before
 
-  factor : Held w64 (c .before .count2 .result) 3000 (pos (countAt (s .args .rows .now) (4 * (s .args .r - 1) + 2)))
+  factor : Held w64 (c .before .word2 .result) 3000 (pos (countAt (s .args .rows .now) (4 * (s .args .r - 1) + 2)))
   factor =
-      let f = c .before .count2 in
+      let f = c .before .word2 in
       subst (λ (k : ℕ). Held w64 (f .result) 3000 (pos k)) (f .ensures .0) (nat w64 3000 (rw (f .ensures .0) (s .pre .3)) (omega arith))
 
   value : Held w64 (ofZ w64 (c .traffic .result)) trafficMost (liveValue (s .args .live) (liveOf (countAt (s .args .rows .now) (4 * (s .args .r - 1) + 1))))
-  value = retold (got w64 (c .traffic .ok) (c .traffic .ensures)) (ap (λ (k : ℕ). liveValue (s .args .live) (liveOf k)) (c .before .before .count .ensures .0))
+  value = retold (got w64 (c .traffic .ok) (c .traffic .ensures)) (ap (λ (k : ℕ). liveValue (s .args .live) (liveOf k)) (c .before .before .word .ensures .0))
 
 mul-result : tie.Need-mul-result
 mul-result c = times! (factor c) (value c) (lit< tt)
@@ -64,4 +46,4 @@ returns : tie.Need-returns
 returns c = let v = times (factor c) (value c) (lit< tt) in rw (v .is) (refl, v .near)
 
 pub loaded-spec : {M : Type 1} → statement M
-loaded-spec = tie.close (tie.spec sub-count mul-count add-count count-requires sub-count-2 mul-count-2 add-count-2 count-requires-2 cast-result traffic-requires mul-result returns)
+loaded-spec = tie.close (tie.spec word-requires word-requires-2 cast-result traffic-requires mul-result returns)
