@@ -1,6 +1,6 @@
 -- A row's traffic by its live kind, and the row's best value by its chain's.
 use mathlib.Core.Path.{_≡_, refl, sym, _∙_, ap, ap₂}
-use mathlib.Core.Bool.{true, false, true≢false}
+use mathlib.Core.Bool.{Bool, true, false, true≢false}
 use Prim.Native.Nat.{ℕ, _≤_}
 use native.Mathlib.Omega.{arith}
 use lib.IntN.{ℤ, pos, _+ℤ_, _*ℤ_}
@@ -48,29 +48,32 @@ module _ (q : Question) (effect : ℕ → Effect) (row : ℕ → Row) (v : LiveV
   never Greatest = refl
   never Least = refl
 
-  laden-right : RowRight q effect row (liveValue v) (ladenRow q r x own)
+  -- row r, its traffic left out or counting
+  abbrev by : Bool → ℤ → Governing
+  by b z = if b then record { value = x .value; row = r; omitted = x .omitted; unladen = true } else record { value = x .value +ℤ z; row = r; omitted = x .omitted; unladen = false }
+
+  laden-right : (ladenRow q r x own .row ≡ r) × RowRight q effect row (liveValue v) (ladenRow q r x own)
   unfolding rowValue bestRow
   laden-right =
-      by-test (beats q (pos 0) own)
-      (λ b. RowRight q effect row (liveValue v) (if b then record { value = x .value; row = r; omitted = x .omitted; unladen = true } else record { value = x .value +ℤ own; row = r; omitted = x .omitted; unladen = false }))
-      (λ b. record {
-        value = sym (zero-last (x .value)) ∙ ap₂ _+ℤ_ (right .value ∙ best) (sym (better-first q (pos 0) own b));
-        mayOmit = right .mayOmit;
-        gives = ap₂ _+ℤ_ (right .gives) zero-times ∙ zero-last (x .value);
-        laden = λ e. absurd (true≢false (sym b ∙ ap (beats q (pos 0)) (ap (λ (l : Live). pos (row r .factor) *ℤ liveValue v l) e ∙ zero-times) ∙ never q));
-      })
-      (λ b. record {
-        value = ap₂ _+ℤ_ (right .value ∙ best) (sym (better-second q (pos 0) own b));
-        mayOmit = right .mayOmit;
-        gives = ap (λ (z : ℤ). z +ℤ own) (right .gives);
-        laden = λ _. refl;
-      })
-
-  -- either way it is row r
-  laden-row : ladenRow q r x own .row ≡ r
-  laden-row =
-      by-test (beats q (pos 0) own) (λ b. let g : Governing = if b then record { value = x .value; row = r; omitted = x .omitted; unladen = true } else record { value = x .value +ℤ own; row = r; omitted = x .omitted; unladen = false } in g .row ≡ r)
-      (λ _. refl) (λ _. refl)
+      by-test (beats q (pos 0) own) (λ b. (by b own .row ≡ r) × RowRight q effect row (liveValue v) (by b own))
+      (λ b. (
+        refl,
+        record {
+          value = sym (zero-last (x .value)) ∙ ap₂ _+ℤ_ (right .value ∙ best) (sym (better-first q (pos 0) own b));
+          mayOmit = right .mayOmit;
+          gives = ap₂ _+ℤ_ (right .gives) zero-times ∙ zero-last (x .value);
+          laden = λ e. absurd (true≢false (sym b ∙ ap (beats q (pos 0)) (ap (λ (l : Live). pos (row r .factor) *ℤ liveValue v l) e ∙ zero-times) ∙ never q));
+        },
+      ))
+      (λ b. (
+        refl,
+        record {
+          value = ap₂ _+ℤ_ (right .value ∙ best) (sym (better-second q (pos 0) own b));
+          mayOmit = right .mayOmit;
+          gives = ap (λ (z : ℤ). z +ℤ own) (right .gives);
+          laden = λ _. refl;
+        },
+      ))
 
   pub laden-is : {g : Governing} {z : ℤ} → g ≡ ladenRow q r x z → z ≡ own → (g .row ≡ r) × RowRight q effect row (liveValue v) g
-  laden-is {g} e p = let is : g ≡ ladenRow q r x own = e ∙ ap (ladenRow q r x) p in rw is (laden-row, laden-right)
+  laden-is {g} e p = let is : g ≡ ladenRow q r x own = e ∙ ap (ladenRow q r x) p in rw is laden-right
