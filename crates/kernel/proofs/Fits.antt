@@ -6,6 +6,7 @@ use mathlib.Core.List.{List, [], _∷_}
 use Prim.Native.Nat.{ℕ, _*_, _≤_, _<_}
 use native.Mathlib.Omega.{arith}
 use lib.IntN.{ℤ, pos}
+use Rattle.exact.specs.declared.Question.{Question}
 use Rattle.model.specs.Job.{Live, Limit}
 use Rattle.model.specs.Decode.{decode, effectAt, rowAt}
 use Rattle.model.specs.declared.State.{State}
@@ -100,11 +101,10 @@ module _ {b : List ℕ} {head : Header} (ready : Ready b head) where
     tables-found = rw (p, q, t) tables
 
     -- a state found in them is the job's
-    pub state-found : (most least : Live → ℤ) (limit : Limit) (x : State) → StateFound (effectAt e) (rowAt r s (head .records)) most least limit (head .rows) x →
-        StateFound (decode b .effect) (decode b .row) most least limit (decode b .rows) x
+    pub state-found : (traffic : Question → Live → ℤ) (limit : Limit) (x : State) → StateFound (effectAt e) (rowAt r s (head .records)) traffic limit (head .rows) x → StateFound (decode b .effect) (decode b .row) traffic limit (decode b .rows) x
     unfolding decode
-    state-found most least limit x f =
-        subst (λ (h : Header). StateFound (effectAt (sectionOf b Effects)) (rowAt (sectionOf b Rows) (sectionOf b Records) (h .records)) most least limit (h .rows) x) (ready .own)
-        (subst (λ (l : List ℕ). StateFound (effectAt l) (rowAt (sectionOf b Rows) (sectionOf b Records) (head .records)) most least limit (head .rows) x) p
-        (subst (λ (l : List ℕ). StateFound (effectAt e) (rowAt l (sectionOf b Records) (head .records)) most least limit (head .rows) x) q
-        (subst (λ (l : List ℕ). StateFound (effectAt e) (rowAt r l (head .records)) most least limit (head .rows) x) t f)))
+    state-found traffic limit x f =
+        subst (λ (h : Header). StateFound (effectAt (sectionOf b Effects)) (rowAt (sectionOf b Rows) (sectionOf b Records) (h .records)) traffic limit (h .rows) x) (ready .own)
+        (subst (λ (l : List ℕ). StateFound (effectAt l) (rowAt (sectionOf b Rows) (sectionOf b Records) (head .records)) traffic limit (head .rows) x) p
+        (subst (λ (l : List ℕ). StateFound (effectAt e) (rowAt l (sectionOf b Records) (head .records)) traffic limit (head .rows) x) q
+        (subst (λ (l : List ℕ). StateFound (effectAt e) (rowAt r l (head .records)) traffic limit (head .rows) x) t f)))

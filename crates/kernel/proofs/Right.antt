@@ -9,7 +9,7 @@ use Rattle.model.specs.Job.{Job, Limit, service, ultimate, Live, noTraffic, nor
 use Rattle.model.specs.Line.{patchBytes}
 use Rattle.model.specs.Traffic.{trafficValue}
 use Rattle.model.specs.Arrangements.{arranged}
-use Rattle.model.specs.Answered.{positionOf, reportedEffect, extremeOf, PositionRight, TrafficRight, StateRight, AccountRight}
+use Rattle.model.specs.Answered.{positionOf, reportedEffect, PositionRight, TrafficRight, StateRight, AccountRight}
 use Rattle.model.specs.declared.Sense.{Sense}
 use Rattle.model.specs.declared.Sense.the-variants.{Raising, Lowering}
 use Rattle.model.specs.declared.Extreme.{Extreme}
@@ -19,10 +19,10 @@ use Rattle.model.proofs.LineLimits.{OneSigned}
 use Rattle.model.proofs.Unbeaten.{unbeaten}
 use Rattle.model.proofs.Signs.{no-traffic}
 use Rattle.model.proofs.Attained.{reported-lawful, reported-gives}
-use Rattle.rows.specs.Governed.{trafficOf}
-use Rattle.rows.specs.declared.state.Live.{Live as Pair}
+use Rattle.rows.specs.Governed.{liveFor, trafficOf}
+use Rattle.rows.specs.declared.state.LiveBoth.{LiveBoth}
 use Rattle.rows.proofs.Limits.{Given, state-right}
-use Rattle.kernel.specs.Parts.{TrafficPlaced, reportedValues, StateOf, PartsRight}
+use Rattle.kernel.specs.Parts.{TrafficPlaced, reportedLive, StateOf, PartsRight}
 
 module _ (job : Job) (signed : OneSigned (job .line)) (g-pos : zero < job .deck .g) (patch rest : List ℕ) (a : Account)
     (bytes : patch ≡ patchBytes (job .line) ++ rest) (positions : (sense : Sense) → PositionRight (job .line) sense (positionOf a sense)) where
@@ -43,7 +43,7 @@ module _ (job : Job) (signed : OneSigned (job .line)) (g-pos : zero < job .deck 
   }
 
 -- a question's reported values are the job's, for each live kind
-values-given : (q : Question) (job : Job) (v : Pair) → v .normal ≡ trafficValue q job normal → v .overload ≡ trafficValue q job overload → (live : Live) → trafficOf v live ≡ trafficValue q job live
+values-given : (q : Question) (job : Job) (v : LiveBoth) → liveFor q v .normal ≡ trafficValue q job normal → liveFor q v .overload ≡ trafficValue q job overload → (live : Live) → trafficOf v q live ≡ trafficValue q job live
 values-given q job v e f noTraffic = sym (no-traffic q job)
 values-given q job v e f normal = e
 values-given q job v e f overload = f
@@ -72,14 +72,17 @@ account-right job signed g-pos rest a p = record {
     gives : (q : Question) (live : Live) (x : Extreme) → TrafficPlaced q job live x → reportedEffect q job (patchBytes (job .line) ++ rest) a (x .placement) ≡ trafficValue q job live
     gives = placed-gives job signed g-pos (patchBytes (job .line) ++ rest) rest a refl positions
 
-    given : (limit : Limit) (q : Question) → TrafficPlaced q job normal (extremeOf q (a .normal)) → TrafficPlaced q job overload (extremeOf q (a .overload)) →
-        Given job (patchBytes (job .line) ++ rest) a limit signed g-pos q (trafficOf (reportedValues q a))
-    given limit q hn ho = record {
-      values = values-given q job (reportedValues q a) (hn .value) (ho .value);
-      normals = gives q normal (extremeOf q (a .normal)) hn;
-      overloads = gives q overload (extremeOf q (a .overload)) ho;
+    given : (limit : Limit) (q : Question) → Given job (patchBytes (job .line) ++ rest) a limit signed g-pos q (trafficOf (reportedLive a) q)
+    given limit Greatest = record {
+      values = values-given Greatest job (reportedLive a) (p .normalGreatest .value) (p .overloadGreatest .value);
+      normals = gives Greatest normal (a .normal .greatest) (p .normalGreatest);
+      overloads = gives Greatest overload (a .overload .greatest) (p .overloadGreatest);
+    }
+    given limit Least = record {
+      values = values-given Least job (reportedLive a) (p .normalLeast .value) (p .overloadLeast .value);
+      normals = gives Least normal (a .normal .least) (p .normalLeast);
+      overloads = gives Least overload (a .overload .least) (p .overloadLeast);
     }
 
     state : (limit : Limit) (s : State) → StateOf job a limit s → StateRight job (patchBytes (job .line) ++ rest) a limit s
-    state limit s h =
-        state-right job (patchBytes (job .line) ++ rest) a limit signed g-pos _ _ s (given limit Greatest (p .normalGreatest) (p .overloadGreatest)) (given limit Least (p .normalLeast) (p .overloadLeast)) h
+    state limit s h = state-right job (patchBytes (job .line) ++ rest) a limit signed g-pos (trafficOf (reportedLive a)) s (given limit) h

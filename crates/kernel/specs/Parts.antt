@@ -6,6 +6,7 @@ use Prim.Native.Nat.{ℕ, _≤_, _<_}
 use Rattle.exact.specs.Bounds.{Within}
 use Rattle.exact.specs.declared.Question.{Question}
 use Rattle.exact.specs.declared.Question.the-variants.{Greatest, Least}
+use Rattle.model.specs.Magnitudes.{trafficMost}
 use Rattle.model.specs.Job.{Job, Limit, service, ultimate, Live, normal, overload}
 use Rattle.model.specs.Line.{Kind, HO, lineEffect}
 use Rattle.model.specs.Format.{headerOf}
@@ -23,7 +24,8 @@ use Rattle.model.specs.declared.State.{State}
 use Rattle.model.specs.declared.Account.{Account}
 use Rattle.lanes.specs.declared.traffic.Effects.{Effects}
 use Rattle.rows.specs.Governed.{trafficOf, StateFound}
-use Rattle.rows.specs.declared.state.Live.{Live as Pair}
+use Rattle.rows.specs.declared.state.LiveBoth.{LiveBoth}
+use Rattle.rows.specs.declared.state.LiveValues.{LiveValues}
 use Rattle.kernel.specs.declared.TrafficValues.{TrafficValues}
 
 -- the job is accepted, and the header is its own
@@ -49,8 +51,8 @@ pub record TrafficPlaced (q : Question) (job : Job) (live : Live) (x : Extreme) 
 pub record TrafficFound (job : Job) (live : Live) (t : Traffic) : Type 0 where
   pub greatest : TrafficPlaced Greatest job live (t .greatest)
   pub least : TrafficPlaced Least job live (t .least)
-  pub nearGreatest : Within 1000000000000 (t .greatest .value)
-  pub nearLeast : Within 1000000000000 (t .least .value)
+  pub nearGreatest : Within trafficMost (t .greatest .value)
+  pub nearLeast : Within trafficMost (t .least .value)
 
 -- both live kinds', and the number of lanes
 pub record ValuesRight (job : Job) (v : TrafficValues) : Type 0 where
@@ -59,12 +61,16 @@ pub record ValuesRight (job : Job) (v : TrafficValues) : Type 0 where
   pub laneCount : v .lanes ≡ lanes job
 
 -- a question's reported traffic values
-abbrev pub reportedValues : Question → Account → Pair
+abbrev pub reportedValues : Question → Account → LiveValues
 reportedValues q a = record { normal = extremeOf q (a .normal) .value; overload = extremeOf q (a .overload) .value }
+
+-- both questions'
+abbrev pub reportedLive : Account → LiveBoth
+reportedLive a = record { greatest = reportedValues Greatest a; least = reportedValues Least a }
 
 -- a limit state as found among the job's rows, with these traffic values
 abbrev pub StateOf : Job → Account → Limit → State → Type 0
-StateOf job a limit s = StateFound (job .effect) (job .row) (trafficOf (reportedValues Greatest a)) (trafficOf (reportedValues Least a)) limit (job .rows) s
+StateOf job a limit s = StateFound (job .effect) (job .row) (trafficOf (reportedLive a)) limit (job .rows) s
 
 -- the parts of an account, each right by itself
 pub record PartsRight (job : Job) (a : Account) : Type 0 where

@@ -28,13 +28,15 @@ use model::Side;
 use model::State;
 use model::Traffic;
 use rows::state;
-use rows::state::Live;
+use rows::state::LimitStates;
+use rows::state::LiveBoth;
+use rows::state::LiveValues;
 ghost use mathlib.Core.Path.{_≡_};
-ghost use Prim.Native.Nat.{_≤_};
-ghost use Rattle.model.specs.Decode.{decode, limitOf};
+ghost use Rattle.model.specs.Decode.{decode};
+ghost use Rattle.model.specs.Job.{Limit};
 ghost use Rattle.model.specs.Answered.{zeroTraffic, refusalAnswer, Answered};
 ghost use Rattle.line.specs.Sought.{SoughtRight, SensesRight};
-ghost use Rattle.rows.specs.Governed.{trafficOf, LiveFits, StateFound};
+ghost use Rattle.rows.specs.Governed.{trafficOf, LiveFits, stateFor, StateFound};
 ghost use Rattle.kernel.specs.Parts.{Ready, ValuesRight, PartsRight};
 
 // A live kind's two values, both 0, with every lane unloaded.
@@ -135,24 +137,15 @@ fn values(job: &[u8], head: Header, raising: Sought, lowering: Sought) -> Traffi
     }
 }
 
-// A limit state, 1 service or 2 ultimate, by the traffic values.
-fn limit_state(job: &[u8], head: Header, most: Live, least: Live, limit: usize) -> State
-    requires { ⌜ Ready (now job) head × LiveFits most × LiveFits least × (1 ≤ limit) × (limit ≤ 2) ⌝ }
-    ensures { λ r. ⌜ StateFound (decode (now (job .entry)) .effect) (decode (now (job .entry)) .row) (trafficOf most) (trafficOf least) (limitOf limit) (decode (now (job .entry)) .rows) r ⌝ }
+// Both limit states by the traffic values.
+fn limit_states(job: &[u8], head: Header, live: LiveBoth) -> LimitStates
+    requires { ⌜ Ready (now job) head × LiveFits live ⌝ }
+    ensures { λ r. ⌜ ((limit : Limit) → StateFound (decode (now (job .entry)) .effect) (decode (now (job .entry)) .row) (trafficOf live) limit (decode (now (job .entry)) .rows) (stateFor limit r)) ⌝ }
 {
     let effects = sections::section(job, head, Part::Effects);
     let rows = sections::section(job, head, Part::Rows);
     let records = sections::section(job, head, Part::Records);
-    state::state(
-        effects,
-        rows,
-        records,
-        head.rows,
-        head.records,
-        most,
-        least,
-        limit,
-    )
+    state::states(effects, rows, records, head.rows, head.records, live)
 }
 
 // The account of an accepted job; the patch bytes that its placements go with are not in it.
@@ -170,16 +163,21 @@ pub fn account(job: &[u8], head: Header) -> Account
     let nl = normal.least;
     let og = overload.greatest;
     let ol = overload.least;
-    let most = Live {
+    let most = LiveValues {
         normal: ng.value,
         overload: og.value,
     };
-    let least = Live {
+    let lowest = LiveValues {
         normal: nl.value,
         overload: ol.value,
     };
-    let service = limit_state(job, head, most, least, 1);
-    let ultimate = limit_state(job, head, most, least, 2);
+    let live = LiveBoth {
+        greatest: most,
+        least: lowest,
+    };
+    let states = limit_states(job, head, live);
+    let service = states.service;
+    let ultimate = states.ultimate;
     let up = raising.position;
     let down = lowering.position;
     Account {

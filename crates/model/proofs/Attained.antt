@@ -1,7 +1,6 @@
 -- The other half of demand 3: when what is reported keeps the rules and gives its value exactly.
 use mathlib.Core.Path.{_≡_, refl, sym, _∙_, ap, ap₂, subst}
-use mathlib.Core.Bool.{Bool, true, false, true≢false, false≢true}
-use mathlib.Core.Option.{some}
+use mathlib.Core.Bool.{Bool, true, false, false≢true}
 use mathlib.Core.List.{List, _++_}
 use Prim.Native.Nat.{ℕ, zero, suc, _+_, _-_, _*_, _^_, _≤_, _<_}
 use native.Mathlib.Nat.{mul-pos, mul-add, mul-le-mul-left}
@@ -18,27 +17,24 @@ use Rattle.exact.specs.declared.Question.{Question}
 use Rattle.exact.proofs.Exact.{_⊕_, _⊗_, lit, _≐_, solve}
 use Rattle.exact.proofs.Ranges.{sum-cong, sum-scale, sum-zero, sum-one, count-cong, length-listOf, getD-listOf}
 use Rattle.exact.proofs.Rounding.{rounded-scale}
-use Rattle.model.specs.Job.{InfluenceLine, Job, Limit, Live, noTraffic, normal, overload}
+use Rattle.model.specs.Job.{InfluenceLine, Job, Live, noTraffic, normal, overload}
 use Rattle.model.specs.Line.{Kind, HN, HO, axle, bestPair, patchByte, patchBytes, uniformPart, lineEffect}
 use Rattle.model.specs.Lanes.{reduction, transverseAt, bit, CentreFits}
 use Rattle.model.specs.Traffic.{lanes, laneEffect, setSum, bestSum, effectOf, trafficValue}
-use Rattle.model.specs.Rows.{rowValue, stateValue}
 use Rattle.model.specs.Arrangements.{Element, Load, unloaded, element, Arrangement, elementLine, elementEffect, carries, loadEffect, lanesUnder, sumUnder, sumOf, arranged, OverloadLanes, Lawful}
-use Rattle.model.specs.Answered.{laneAt, positionOf, reportedElement, reportedLoad, reported, reportedEffect, PositionRight, extremeOf, countedTraffic, omits}
+use Rattle.model.specs.Answered.{laneAt, positionOf, reportedElement, reportedLoad, reported, reportedEffect, PositionRight, extremeOf, countedTraffic}
 use Rattle.model.specs.Placements.{BestCentre, EntryRight, entryIs, placedLanes, placedUnder, placedSum}
 use Rattle.model.specs.declared.Sense.{Sense}
 use Rattle.model.specs.declared.Entry.{Entry}
 use Rattle.model.specs.declared.Entry.the-variants.{Unloaded, Hn, Ho}
 use Rattle.model.specs.declared.Placement.{Placement}
-use Rattle.model.specs.declared.Governing.{Governing}
 use Rattle.model.specs.declared.Account.{Account}
 use Rattle.model.proofs.Lanes.{lane-count}
-use Rattle.model.proofs.Signs.{traffic-zero, no-traffic, multiple-zero}
+use Rattle.model.proofs.Signs.{no-traffic}
 use Rattle.model.proofs.Pair.{pair-at}
 use Rattle.model.proofs.Uniform.{loaded-parts-given}
 use Rattle.model.proofs.Sets.{ones-count}
 use Rattle.model.proofs.Unbeaten.{bestUnder, bestOf}
-use Rattle.model.proofs.States.{SuitsAll, row-attained, governing-row}
 
 -- ---- any arrangement
 -- one whose every lane gives the lane's best, and whose bests together are the best sum, gives the traffic value
@@ -219,15 +215,3 @@ counted-given q job patch a true live hn ho = refl
 counted-given q job patch a false noTraffic hn ho = sym (no-traffic q job)
 counted-given q job patch a false normal hn ho = hn
 counted-given q job patch a false overload hn ho = ho
-
--- a reported state gives its value: its row's omissions suit, and the traffic, which never worsens, counts
-pub state-gives : (q : Question) (job : Job) (patch : List ℕ) (a : Account) (limit : Limit) (x : Governing) → zero < job .deck .g →
-    stateValue q job limit ≡ some (record { value = x .value; row = x .row }) → SuitsAll q (job .effect) (omits (x .omitted)) (job .row (x .row) .chain) → x .unladen ≡ false →
-    reportedEffect q job patch a (extremeOf q (a .normal) .placement) ≡ trafficValue q job normal → reportedEffect q job patch a (extremeOf q (a .overload) .placement) ≡ trafficValue q job overload →
-    rowValue (job .effect) (job .row (x .row)) (omits (x .omitted)) (countedTraffic q job patch a (x .unladen) (job .row (x .row) .live)) ≡ x .value
-state-gives q job patch a limit x g-pos value suits laden hn ho =
-    let row = job .row (x .row) in
-    ap (rowValue (job .effect) row (omits (x .omitted))) (counted-given q job patch a (x .unladen) (row .live) hn ho)
-    ∙ row-attained q (job .effect) (trafficValue q job) row (omits (x .omitted)) (x .unladen) suits (λ e. absurd (true≢false (sym e ∙ laden)))
-    (λ _. multiple-zero q (row .factor) _ (traffic-zero q job (row .live) g-pos))
-    ∙ sym (governing-row q job limit _ value .1)

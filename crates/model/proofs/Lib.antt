@@ -18,5 +18,6 @@ pub mod Uniform
 pub mod Centre
 pub mod Sets
 pub mod Unbeaten
+pub mod Few
 pub mod States
 pub mod Attained

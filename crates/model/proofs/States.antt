@@ -12,14 +12,13 @@ use Rattle.exact.specs.Questions.{better, beats, NoBetter}
 use Rattle.exact.specs.declared.Question.{Question}
 use Rattle.exact.proofs.Bridge.{by-test}
 use Rattle.exact.proofs.Exact.{_⊗_, lit, _≐_, solve}
-use Rattle.exact.proofs.Extremes.{no-better-refl, no-better-trans, no-better-antisym, no-better-add, no-better-scale, better-left, better-right, better-least, beats-yes, beats-no}
+use Rattle.exact.proofs.Extremes.{no-better-refl, no-better-trans, no-better-antisym, no-better-add, no-better-scale, extreme-bounds, better-left, better-right, better-least, beats-yes, beats-no}
 use Rattle.model.specs.Job.{Effect, Term, Row, Limit, service, ultimate, Live, Job}
 use Rattle.model.specs.Traffic.{trafficValue}
 use Rattle.model.specs.Rows.{share, chainValue, rowValue, MayOmit, bestChain, bestRow, Governs, laterIfBetter, isOf, governing, stateValue}
 use Rattle.model.specs.Arrangements.{Arrangement, arranged, Lawful}
 use Rattle.model.specs.Answered.{RowOf}
 use Rattle.model.proofs.LineLimits.{OneSigned}
-use Rattle.model.proofs.Signs.{multiple-zero}
 use Rattle.model.proofs.Unbeaten.{unbeaten}
 
 -- ---- a row
@@ -41,11 +40,12 @@ module _ (q : Question) (effect : ℕ → Effect) where
   chain-bound omits (t ∷ l) h =
       no-better-add q _ (bestShare t) _ _ (share-bound (share effect t) (omits (t .effect)) (effect (t .effect) .optional) (h (t .effect))) (chain-bound omits l h)
 
-  -- nor, with traffic that does not beat the best or none at all, a row's
-  row-bound : (traffic : Live → ℤ) (row : Row) (omits : ℕ → Bool) (x : ℤ) → MayOmit effect (row .chain) omits → NoBetter q (pos (row .factor) *ℤ x) (better q (pos 0) (pos (row .factor) *ℤ traffic (row .live))) →
-      NoBetter q (rowValue effect row omits x) (bestRow q effect traffic row)
+  -- nor, with traffic that does not beat the best or none at all, a row's by any alternative
+  row-bound : (traffic : Live → ℤ) (row : Row) (a : ℕ) (omits : ℕ → Bool) (x : ℤ) → a ≤ row .others → MayOmit effect (row .chain a) omits →
+      NoBetter q (pos (row .factor) *ℤ x) (better q (pos 0) (pos (row .factor) *ℤ traffic (row .live))) → NoBetter q (rowValue effect row a omits x) (bestRow q effect traffic row)
   unfolding rowValue bestRow
-  row-bound traffic row omits x may h = no-better-add q _ _ _ _ (chain-bound omits (row .chain) (λ e t. may e t .1)) h
+  row-bound traffic row a omits x among may h =
+      no-better-add q _ _ _ _ (no-better-trans q _ (bestChain q effect (row .chain a)) _ (chain-bound omits (row .chain a) (λ e t. may e t .1)) (extreme-bounds q (row .others) (λ b. bestChain q effect (row .chain b)) a among)) h
 
   -- ---- and when it is attained
   -- an omission that suits a chain record: left out only where it may be and does not help, kept only where it must be or does not harm
@@ -58,26 +58,14 @@ module _ (q : Question) (effect : ℕ → Effect) where
   SuitsAll omits [] = Unit {0}
   SuitsAll omits (t ∷ l) = Suits omits t × SuitsAll omits l
 
-  suits-by : (omits : ℕ → Bool) (t : Term) (x : ℤ) → (NoBetter q x (pos 0) → NoBetter q (share effect t) (pos 0)) → (NoBetter q (pos 0) x → NoBetter q (pos 0) (share effect t)) →
-      omits (t .effect) ≡ (effect (t .effect) .optional && beats q (pos 0) x) → Suits omits t
-  suits-by omits t x down up = go (effect (t .effect) .optional) (beats q (pos 0) x) refl refl
-    where
-      go : (m b : Bool) → effect (t .effect) .optional ≡ m → beats q (pos 0) x ≡ b → omits (t .effect) ≡ (m && b) → Suits omits t
-      go true true em eb eo = record { left = λ _. (em, down (beats-yes q (pos 0) x eb .0)); kept = λ f. absurd (true≢false (sym eo ∙ f)) }
-      go true false em eb eo = record { left = λ f. absurd (false≢true (sym eo ∙ f)); kept = λ _ _. up (beats-no q (pos 0) x eb .0) }
-      go false b em eb eo = record { left = λ f. absurd (false≢true (sym eo ∙ f)); kept = λ _ f. absurd (false≢true (sym em ∙ f)) }
-
   -- as where an effect is left out exactly if it may be and its share strictly worsens the value
   pub suits-share : (omits : ℕ → Bool) (t : Term) → omits (t .effect) ≡ (effect (t .effect) .optional && beats q (pos 0) (share effect t)) → Suits omits t
-  suits-share omits t e = suits-by omits t (share effect t) (λ h. h) (λ h. h) e
-
-  -- or if its own value does, whatever its factor: with factor 0 it gives 0 either way
-  pub suits-value : (omits : ℕ → Bool) (t : Term) → omits (t .effect) ≡ (effect (t .effect) .optional && beats q (pos 0) (effect (t .effect) .value)) → Suits omits t
-  suits-value omits t e =
-      let f = t .factor in
-      let x = effect (t .effect) .value in
-      suits-by omits t x
-      (λ h. subst (NoBetter q (pos f *ℤ x)) (solve 1 (λ f. f ⊗ lit 0 ≐ lit 0) tt (pos f)) (no-better-scale q f x (pos 0) h)) (multiple-zero q f x) e
+  suits-share omits t = go (effect (t .effect) .optional) (beats q (pos 0) (share effect t)) refl refl
+    where
+      go : (m b : Bool) → effect (t .effect) .optional ≡ m → beats q (pos 0) (share effect t) ≡ b → omits (t .effect) ≡ (m && b) → Suits omits t
+      go true true em eb eo = record { left = λ _. (em, beats-yes q (pos 0) (share effect t) eb .0); kept = λ f. absurd (true≢false (sym eo ∙ f)) }
+      go true false em eb eo = record { left = λ f. absurd (false≢true (sym eo ∙ f)); kept = λ _ _. beats-no q (pos 0) (share effect t) eb .0 }
+      go false b em eb eo = record { left = λ f. absurd (false≢true (sym eo ∙ f)); kept = λ _ f. absurd (false≢true (sym em ∙ f)) }
 
   better-is : (x y : ℤ) → NoBetter q x y → (better q x y ≡ y) × (better q y x ≡ y)
   better-is x y h = (
@@ -102,20 +90,6 @@ module _ (q : Question) (effect : ℕ → Effect) where
   unfolding chainValue bestChain
   chain-attained omits [] s = refl
   chain-attained omits (t ∷ l) s = ap₂ _+ℤ_ (share-attained omits t (s .0)) (chain-attained omits l (s .1))
-
-  -- with the traffic kept where it does not harm, and left out where it does not help, they give the row's best
-  pub row-attained : (traffic : Live → ℤ) (row : Row) (omits : ℕ → Bool) (unladen : Bool) → SuitsAll omits (row .chain) →
-      (unladen ≡ true → NoBetter q (pos (row .factor) *ℤ traffic (row .live)) (pos 0)) → (unladen ≡ false → NoBetter q (pos 0) (pos (row .factor) *ℤ traffic (row .live))) →
-      rowValue effect row omits (if unladen then pos 0 else traffic (row .live)) ≡ bestRow q effect traffic row
-  unfolding rowValue bestRow
-  row-attained traffic row omits unladen s out in′ = ap₂ _+ℤ_ (chain-attained omits (row .chain) s) (go unladen refl)
-    where
-      x : ℤ
-      x = pos (row .factor) *ℤ traffic (row .live)
-
-      go : (u : Bool) → unladen ≡ u → pos (row .factor) *ℤ (if u then pos 0 else traffic (row .live)) ≡ better q (pos 0) x
-      go true e = solve 1 (λ f. f ⊗ lit 0 ≐ lit 0) tt (pos (row .factor)) ∙ sym (better-is x (pos 0) (out e) .1)
-      go false e = sym (better-is (pos 0) x (in′ e) .0)
 
 -- ---- a state
 -- x does not beat the governing value, and there is one
@@ -205,25 +179,25 @@ module _ (q : Question) (job : Job) (limit : Limit) (g : Governs) (is-value : st
   pub governing-row : RowOf job limit (g .row) × (g .value ≡ bestRow q (job .effect) (trafficValue q job) (job .row (g .row)))
   governing-row = let o = governs-one q (job .row) _ limit (job .rows) g is-value in (record { first = o .first; last = o .last; state = o .state }, o .its)
 
-  under : (r : ℕ) (out : ℕ → Bool) (x : ℤ) → RowOf job limit r → MayOmit (job .effect) (job .row r .chain) out →
-      NoBetter q (pos (job .row r .factor) *ℤ x) (better q (pos 0) (pos (job .row r .factor) *ℤ trafficValue q job (job .row r .live))) → NoBetter q (rowValue (job .effect) (job .row r) out x) (g .value)
-  under r out x of may h =
-      no-better-trans q _ (bestRow q (job .effect) (trafficValue q job) (job .row r)) _ (row-bound q (job .effect) (trafficValue q job) (job .row r) out x may h)
+  under : (r a : ℕ) (out : ℕ → Bool) (x : ℤ) → RowOf job limit r → a ≤ job .row r .others → MayOmit (job .effect) (job .row r .chain a) out →
+      NoBetter q (pos (job .row r .factor) *ℤ x) (better q (pos 0) (pos (job .row r .factor) *ℤ trafficValue q job (job .row r .live))) → NoBetter q (rowValue (job .effect) (job .row r) a out x) (g .value)
+  under r a out x of among may h =
+      no-better-trans q _ (bestRow q (job .effect) (trafficValue q job) (job .row r)) _ (row-bound q (job .effect) (trafficValue q job) (job .row r) a out x among may h)
       (subst (Bounds q _) is-value (governs-all q (job .row) _ limit (job .rows) r (of .first) (of .last) (of .state)))
 
   -- and is beaten by no row of the state, with any omission and the traffic left out
-  pub unbeaten-unladen : (r : ℕ) (out : ℕ → Bool) → RowOf job limit r → MayOmit (job .effect) (job .row r .chain) out → NoBetter q (rowValue (job .effect) (job .row r) out (pos 0)) (g .value)
-  unbeaten-unladen r out of may =
+  pub unbeaten-unladen : (r a : ℕ) (out : ℕ → Bool) → RowOf job limit r → a ≤ job .row r .others → MayOmit (job .effect) (job .row r .chain a) out → NoBetter q (rowValue (job .effect) (job .row r) a out (pos 0)) (g .value)
+  unbeaten-unladen r a out of among may =
       let f = job .row r .factor in
       let t = trafficValue q job (job .row r .live) in
-      under r out (pos 0) of may (subst (λ (x : ℤ). NoBetter q x (better q (pos 0) (pos f *ℤ t))) (solve 1 (λ f. lit 0 ≐ f ⊗ lit 0) tt (pos f)) (better-left q (pos 0) (pos f *ℤ t)))
+      under r a out (pos 0) of among may (subst (λ (x : ℤ). NoBetter q x (better q (pos 0) (pos f *ℤ t))) (solve 1 (λ f. lit 0 ≐ f ⊗ lit 0) tt (pos f)) (better-left q (pos 0) (pos f *ℤ t)))
 
   -- nor with any arrangement of the row's live kind
   pub unbeaten-laden : OneSigned (job .line) → zero < job .deck .g →
-      (r : ℕ) (out : ℕ → Bool) (k : ℕ) (w : Arrangement) → RowOf job limit r → MayOmit (job .effect) (job .row r .chain) out → Lawful job (job .row r .live) k w →
-      NoBetter q (rowValue (job .effect) (job .row r) out (arranged q job k w)) (g .value)
-  unbeaten-laden signed g-pos r out k w of may law =
+      (r a : ℕ) (out : ℕ → Bool) (k : ℕ) (w : Arrangement) → RowOf job limit r → a ≤ job .row r .others → MayOmit (job .effect) (job .row r .chain a) out → Lawful job (job .row r .live) k w →
+      NoBetter q (rowValue (job .effect) (job .row r) a out (arranged q job k w)) (g .value)
+  unbeaten-laden signed g-pos r a out k w of among may law =
       let f = job .row r .factor in
       let t = trafficValue q job (job .row r .live) in
-      under r out (arranged q job k w) of may
+      under r a out (arranged q job k w) of among may
       (no-better-trans q _ (pos f *ℤ t) _ (no-better-scale q f _ t (unbeaten q job (job .row r .live) k w signed g-pos law)) (better-right q (pos 0) (pos f *ℤ t)))

@@ -1,5 +1,6 @@
 pub mod Words
 pub mod Job
+pub mod Magnitudes
 pub mod Fields
 pub mod Format
 pub mod Chains

@@ -1,118 +1,112 @@
--- The governing row, one row more.
-use mathlib.Core.Path.{_≡_, refl, sym, _∙_, ap}
+-- The governing rows, one row more.
+use mathlib.Core.Path.{_≡_, refl, sym, _∙_, ap, subst}
 use mathlib.Core.Bool.{Bool, true, false, true≢false}
 use mathlib.Core.Option.{Option, none, some}
 use mathlib.Core.List.{List}
-use Prim.Native.Nat.{ℕ, zero, suc, _-_, _≤_}
+use Prim.Native.Nat.{ℕ, zero, suc, _+_, _≤_}
+use native.Mathlib.Numerals.{add-one}
 use native.Mathlib.Omega.{arith}
 use lib.Dec.{eqb}
 use lib.IntN.{ℤ}
+use borrow.Author.Tests.{ne-eqb}
 use Rattle.exact.specs.Choice.{if_then_else_}
 use Rattle.exact.specs.Questions.{beats}
 use Rattle.exact.specs.declared.Question.{Question}
+use Rattle.exact.specs.declared.Question.the-variants.{Greatest, Least}
 use Rattle.exact.proofs.Bridge.{by-test}
-use Rattle.model.specs.Decode.{limitOf}
-use Rattle.model.specs.Job.{Effect, Limit, Live, Row}
+use Rattle.exact.proofs.Extremes.{by-question}
+use Rattle.model.specs.Job.{Effect, Limit, service, ultimate, Live, Row}
 use Rattle.model.specs.Rows.{bestRow, Governs, laterIfBetter, isOf, governing}
 use Rattle.model.specs.declared.Governing.{Governing}
+use Rattle.model.specs.declared.State.the-variants.{Absent, Reported}
 use Rattle.rows.specs.Tables.{TablesFit}
+use Rattle.rows.specs.declared.state.RowBoth.{RowBoth}
 use Rattle.rows.specs.declared.state.Found.{Found}
-use Rattle.rows.specs.Governed.{RowRight, governs, governed, found, laterFound, FoundRight, StateRow}
+use Rattle.rows.specs.Governed.{RowRight, rowFor, governs, governed, found, laterRow, withRow, Leads, FoundRight, stateBy, StateFound}
 
 -- the first rows of tables that fit
 pub tables-to : {effects rows records : List ℕ} {n count : ℕ} (m : ℕ) → TablesFit effects rows records n count → m ≤ n → TablesFit effects rows records m count
-tables-to m t h = let l = t .long in record { effects = t .effects; records = t .records; most = t .most; long = omega arith; rows = λ r f k. t .rows r f (omega arith) }
-
--- a row is of a state where its mark is the state's
-pub same-limit : (m limit : ℕ) → 1 ≤ m → m ≤ 2 → 1 ≤ limit → limit ≤ 2 → isOf (limitOf limit) (limitOf m) ≡ eqb m limit
-same-limit zero limit a b c d = absurd (omega arith)
-same-limit (suc zero) zero a b c d = absurd (omega arith)
-same-limit (suc zero) (suc zero) a b c d = refl
-same-limit (suc zero) (suc (suc zero)) a b c d = refl
-same-limit (suc zero) (suc (suc (suc limit))) a b c d = absurd (omega arith)
-same-limit (suc (suc zero)) zero a b c d = absurd (omega arith)
-same-limit (suc (suc zero)) (suc zero) a b c d = refl
-same-limit (suc (suc zero)) (suc (suc zero)) a b c d = refl
-same-limit (suc (suc zero)) (suc (suc (suc limit))) a b c d = absurd (omega arith)
-same-limit (suc (suc (suc m))) limit a b c d = absurd (omega arith)
-
--- the later row, as the model has it
-later-is : (q : Question) (sofar : Found) (next : Governing) → found (laterFound q sofar next) ≡ laterIfBetter q (found sofar) (governed next)
-later-is q sofar next = go (sofar .any)
-  where
-    b : Bool
-    b = beats q (next .value) (sofar .best .value)
-
-    pick : (t : Bool) → found (if t then record { any = true; best = next } else record { any = true; best = sofar .best }) ≡ (if t then some (governed next) else some (governed (sofar .best)))
-    pick true = refl
-    pick false = refl
-
-    go : (t : Bool) → found (if t then (if b then record { any = true; best = next } else record { any = true; best = sofar .best }) else record { any = true; best = next }) ≡ laterIfBetter q (if t then some (governed (sofar .best)) else none) (governed next)
-    go true = pick b
-    go false = refl
+tables-to m t h = let l = t .long in record { effects = t .effects; records = t .records; long = omega arith; rows = λ r f k. t .rows r f (omega arith) }
 
 module _ (q : Question) (effect : ℕ → Effect) (row : ℕ → Row) (traffic : Live → ℤ) (limit : Limit) where
-  -- no row yet
-  pub found-none : (f : Found) → f .any ≡ false → FoundRight q effect row traffic limit 0 f
-  unfolding governing
-  found-none f e = record { is = ap (λ (t : Bool). if t then some (governed (f .best)) else none) (sym e); right = λ t. absurd (true≢false (sym t ∙ e)) }
+  -- the later row, as the model has it
+  later-is : (sofar next : Governing) → eqb (next .row) 0 ≡ false → found (laterRow q sofar next) ≡ laterIfBetter q (found sofar) (governed next)
+  later-is sofar next there =
+      by-test (eqb (sofar .row) 0) (λ t. found (if t then next else (if beats q (next .value) (sofar .value) then next else sofar)) ≡ laterIfBetter q (if t then none else some (governed sofar)) (governed next))
+      (λ _. is-next)
+      (λ e. by-test (beats q (next .value) (sofar .value)) (λ t. found (if t then next else sofar) ≡ (if t then some (governed next) else some (governed sofar)))
+      (λ _. is-next) (λ _. ap (λ (t : Bool). if t then none else some (governed sofar)) e))
+    where
+      is-next : found next ≡ some (governed next)
+      is-next = ap (λ (t : Bool). if t then none else some (governed next)) there
 
-  -- row r is of the state, and its value is right
-  pub found-row : (r : ℕ) (sofar : Found) (next : Governing) → 1 ≤ r → isOf limit (row r .limit) ≡ true → FoundRight q effect row traffic limit (r - 1) sofar → next .row ≡ r → RowRight q effect row traffic next →
-      FoundRight q effect row traffic limit r (laterFound q sofar next)
+  later-right : (sofar next : Governing) → RowRight q effect row traffic next → (eqb (sofar .row) 0 ≡ false → RowRight q effect row traffic sofar) → RowRight q effect row traffic (laterRow q sofar next)
+  later-right sofar next right old =
+      by-test (eqb (sofar .row) 0) (λ t. RowRight q effect row traffic (if t then next else (if beats q (next .value) (sofar .value) then next else sofar)))
+      (λ _. right)
+      (λ e. by-test (beats q (next .value) (sofar .value)) (λ t. RowRight q effect row traffic (if t then next else sofar)) (λ _. right) (λ _. old e))
+
+  -- no row yet
+  pub leads-none : (x : Governing) → x .row ≡ 0 → Leads q effect row traffic limit 0 x
   unfolding governing
-  found-row zero sofar next h t fr e right = absurd (omega arith)
-  found-row (suc r) sofar next h t fr e right = record {
+  leads-none x e = record { is = rw e refl; right = λ t. absurd (true≢false (sym (ap (λ (k : ℕ). eqb k 0) e) ∙ t)) }
+
+  -- row n + 1 is of the state, and its value is right
+  leads-row : (n : ℕ) (sofar next : Governing) → isOf limit (row (suc n) .limit) ≡ true → Leads q effect row traffic limit n sofar → next .row ≡ suc n → RowRight q effect row traffic next → Leads q effect row traffic limit (suc n) (laterRow q sofar next)
+  unfolding governing
+  leads-row n sofar next t l e right = record {
     is =
-        ap (λ (b : Bool). if b then laterIfBetter q (governs q effect row traffic limit r) now else governs q effect row traffic limit r) t
-        ∙ ap (λ (o : Option Governs). laterIfBetter q o now) before
+        ap (λ (b : Bool). if b then laterIfBetter q (governs q effect row traffic limit n) now else governs q effect row traffic limit n) t
+        ∙ ap (λ (o : Option Governs). laterIfBetter q o now) (l .is)
         ∙ ap (laterIfBetter q (found sofar)) is-next
-        ∙ sym (later-is q sofar next);
-    right = λ _. either (sofar .any) refl;
+        ∙ sym (later-is sofar next (ne-eqb (next .row) 0 (λ z. omega arith)));
+    right = λ _. later-right sofar next right (l .right);
   }
     where
       now : Governs
-      now = record { value = bestRow q effect traffic (row (suc r)); row = suc r }
-
-      less : suc r - 1 ≡ r
-      less = omega arith
-
-      before : governs q effect row traffic limit r ≡ found sofar
-      before = ap (governs q effect row traffic limit) (sym less) ∙ fr .is
+      now = record { value = bestRow q effect traffic (row (suc n)); row = suc n }
 
       is-next : now ≡ governed next
       is-next = ap (λ (k : ℕ). record { value = bestRow q effect traffic (row k); row = k }) (sym e) ∙ ap (λ (z : ℤ). record { value = z; row = next .row }) (sym (right .value))
 
-      Right : Found → Type 0
-      Right f = RowRight q effect row traffic (f .best)
-
-      choose : (b : Bool) → Right sofar → Right (if b then record { any = true; best = next } else record { any = true; best = sofar .best })
-      choose true s = right
-      choose false s = s
-
-      either : (a : Bool) → sofar .any ≡ a → Right (if a then (if beats q (next .value) (sofar .best .value) then record { any = true; best = next } else record { any = true; best = sofar .best }) else record { any = true; best = next })
-      either true a = choose (beats q (next .value) (sofar .best .value)) (fr .right a)
-      either false a = right
-
-  -- row r is not of the state
-  pub found-other : (r : ℕ) (sofar : Found) → 1 ≤ r → isOf limit (row r .limit) ≡ false → FoundRight q effect row traffic limit (r - 1) sofar → FoundRight q effect row traffic limit r sofar
+  -- it is not
+  leads-other : (n : ℕ) (sofar : Governing) → isOf limit (row (suc n) .limit) ≡ false → Leads q effect row traffic limit n sofar → Leads q effect row traffic limit (suc n) sofar
   unfolding governing
-  found-other zero sofar h t fr = absurd (omega arith)
-  found-other (suc r) sofar h t fr =
-      let less : suc r - 1 ≡ r = omega arith in
-      record {
-        is =
-            ap (λ (b : Bool). if b then laterIfBetter q (governs q effect row traffic limit r) (record { value = bestRow q effect traffic (row (suc r)); row = suc r }) else governs q effect row traffic limit r) t
-            ∙ ap (governs q effect row traffic limit) (sym less) ∙ fr .is;
-        right = fr .right;
-      }
+  leads-other n sofar t l = record {
+    is = ap (λ (b : Bool). if b then laterIfBetter q (governs q effect row traffic limit n) (record { value = bestRow q effect traffic (row (suc n)); row = suc n }) else governs q effect row traffic limit n) t ∙ l .is;
+    right = l .right;
+  }
 
-  -- what was found, said of the state
-  pub state-row : (n : ℕ) (f : Found) → FoundRight q effect row traffic limit n f → f .any ≡ true → StateRow q effect row traffic limit n (f .best)
-  state-row n f fr e = record { value = fr .is ∙ ap (λ (t : Bool). if t then some (governed (f .best)) else none) e; right = fr .right e }
+-- what holds of both limit states holds of each
+pub by-limit : (P : Limit → Type 0) → P service → P ultimate → (limit : Limit) → P limit
+by-limit P s u service = s
+by-limit P s u ultimate = u
 
-  pub state-none : (n : ℕ) (f : Found) → FoundRight q effect row traffic limit n f → f .any ≡ false → governs q effect row traffic limit n ≡ none
-  state-none n f fr e = fr .is ∙ ap (λ (t : Bool). if t then some (governed (f .best)) else none) e
+-- ---- each state for each question
+module _ (effect : ℕ → Effect) (row : ℕ → Row) (traffic : Question → Live → ℤ) where
+  pub found-none : (x : Governing) → x .row ≡ 0 → let none : RowBoth = record { greatest = x; least = x } in FoundRight effect row traffic 0 (record { service = none; ultimate = none })
+  found-none x e service = by-question _ (leads-none Greatest effect row (traffic Greatest) service x e) (leads-none Least effect row (traffic Least) service x e)
+  found-none x e ultimate = by-question _ (leads-none Greatest effect row (traffic Greatest) ultimate x e) (leads-none Least effect row (traffic Least) ultimate x e)
+
+  found-more : (n : ℕ) (b : Bool) (x : Found) (next : RowBoth) → row (suc n) .limit ≡ (if b then service else ultimate) → ((q : Question) → (rowFor q next .row ≡ suc n) × RowRight q effect row (traffic q) (rowFor q next)) →
+      FoundRight effect row traffic n x → FoundRight effect row traffic (suc n) (withRow b x next)
+  found-more n b x next of right f = go b of
+    where
+      is : (limit : Limit) {l : Limit} → row (suc n) .limit ≡ l → isOf limit (row (suc n) .limit) ≡ isOf limit l
+      is limit e = ap (isOf limit) e
+
+      go : (b : Bool) → row (suc n) .limit ≡ (if b then service else ultimate) → FoundRight effect row traffic (suc n) (withRow b x next)
+      go true of service Greatest = leads-row Greatest effect row (traffic Greatest) service n _ _ (is service of) (f service Greatest) (right Greatest .0) (right Greatest .1)
+      go true of service Least = leads-row Least effect row (traffic Least) service n _ _ (is service of) (f service Least) (right Least .0) (right Least .1)
+      go true of ultimate q = leads-other q effect row (traffic q) ultimate n _ (is ultimate of) (f ultimate q)
+      go false of service q = leads-other q effect row (traffic q) service n _ (is service of) (f service q)
+      go false of ultimate Greatest = leads-row Greatest effect row (traffic Greatest) ultimate n _ _ (is ultimate of) (f ultimate Greatest) (right Greatest .0) (right Greatest .1)
+      go false of ultimate Least = leads-row Least effect row (traffic Least) ultimate n _ _ (is ultimate of) (f ultimate Least) (right Least .0) (right Least .1)
+
+  -- as the code counts
+  pub found-next : (n : ℕ) (b : Bool) (x : Found) (next : RowBoth) → row (n + 1) .limit ≡ (if b then service else ultimate) → ((q : Question) → (rowFor q next .row ≡ n + 1) × RowRight q effect row (traffic q) (rowFor q next)) →
+      FoundRight effect row traffic n x → FoundRight effect row traffic (n + 1) (withRow b x next)
+  found-next n b x next = subst (λ (k : ℕ). row k .limit ≡ (if b then service else ultimate) → ((q : Question) → (rowFor q next .row ≡ k) × RowRight q effect row (traffic q) (rowFor q next)) → FoundRight effect row traffic n x → FoundRight effect row traffic k (withRow b x next)) (sym (add-one n)) (found-more n b x next)
 
 -- ---- a state's two questions have a row or none together
 abbrev has : Option Governs → Bool
@@ -132,14 +126,26 @@ same-rows q p row v w limit (suc n) =
     (λ _. later-has q (governing q row v limit n) _ ∙ sym (later-has p (governing p row w limit n) _))
     (λ _. same-rows q p row v w limit n)
 
-has-found : (f : Found) → has (found f) ≡ f .any
-has-found f = go (f .any)
-  where
-    go : (t : Bool) → has (if t then some (governed (f .best)) else none) ≡ t
-    go true = refl
-    go false = refl
+-- what was found, said of the state
+module _ (effect : ℕ → Effect) (row : ℕ → Row) (traffic : Question → Live → ℤ) (limit : Limit) (n : ℕ) (x : RowBoth) (f : (q : Question) → Leads q effect row (traffic q) limit n (rowFor q x)) where
+  has-found : (g : Governing) → has (found g) ≡ (if eqb (g .row) 0 then false else true)
+  has-found g = by-test (eqb (g .row) 0) (λ t. has (if t then none else some (governed g)) ≡ (if t then false else true)) (λ _. refl) (λ _. refl)
 
--- what both questions found
-pub found-alike : {q p : Question} {effect : ℕ → Effect} {row : ℕ → Row} {s t : Live → ℤ} {limit : Limit} {n : ℕ} {f g : Found} → FoundRight q effect row s limit n f → FoundRight p effect row t limit n g → f .any ≡ g .any
-found-alike {q} {p} {effect} {row} {s} {t} {limit} {n} {f} {g} a b =
-    sym (has-found f) ∙ ap has (sym (a .is)) ∙ same-rows q p row (λ r. bestRow q effect s (row r)) (λ r. bestRow p effect t (row r)) limit n ∙ ap has (b .is) ∙ has-found g
+  -- a question has a row where the other has one
+  alike : (q : Question) {t : Bool} → eqb (x .greatest .row) 0 ≡ t → eqb (rowFor q x .row) 0 ≡ t
+  alike q {t} e = go (eqb (rowFor q x .row) 0) t (sym (has-found (rowFor q x)) ∙ ap has (sym (f q .is)) ∙ same-rows q Greatest row _ _ limit n ∙ ap has (f Greatest .is) ∙ has-found (x .greatest) ∙ ap (λ (b : Bool). if b then false else true) e)
+    where
+      go : (b t : Bool) → (if b then false else true) ≡ (if t then false else true) → b ≡ t
+      go true true p = refl
+      go true false p = absurd (true≢false (sym p))
+      go false true p = absurd (true≢false p)
+      go false false p = refl
+
+  at : (q : Question) {t : Bool} → eqb (x .greatest .row) 0 ≡ t → governs q effect row (traffic q) limit n ≡ (if t then none else some (governed (rowFor q x)))
+  at q e = f q .is ∙ ap (λ (t : Bool). if t then none else some (governed (rowFor q x))) (alike q e)
+
+  pub state-found : StateFound effect row traffic limit n (stateBy x)
+  state-found =
+      by-test (eqb (x .greatest .row) 0) (λ t. StateFound effect row traffic limit n (if t then Absent else Reported (x .greatest) (x .least)))
+      (λ e q. at q e)
+      (λ e. (record { value = at Greatest e; right = f Greatest .right e }, record { value = at Least e; right = f Least .right (alike Least e) }))

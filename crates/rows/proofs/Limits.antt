@@ -2,10 +2,10 @@
 use mathlib.Core.Path.{_≡_, refl, sym, _∙_, ap, ap₂}
 use mathlib.Core.Option.{Option}
 use mathlib.Core.List.{List}
-use Prim.Native.Nat.{ℕ, zero, suc, _<_}
+use Prim.Native.Nat.{ℕ, zero, suc, _<_, zero-le}
 use lib.IntN.{ℤ, pos, _+ℤ_, _*ℤ_}
 use Rattle.exact.specs.Choice.{if_then_else_}
-use Rattle.exact.specs.Questions.{better}
+use Rattle.exact.specs.Questions.{better, extreme}
 use Rattle.exact.specs.declared.Question.{Question}
 use Rattle.exact.specs.declared.Question.the-variants.{Greatest, Least}
 use Rattle.model.specs.Job.{Effect, Limit, Live, normal, overload, Row, Job}
@@ -24,7 +24,7 @@ use Rattle.rows.specs.Governed.{governs, governed, StateRow, StateFound}
 -- a row's best value depends on the traffic of its live kind alone
 best-cong : (q : Question) (effect : ℕ → Effect) (s t : Live → ℤ) (row : Row) → s (row .live) ≡ t (row .live) → bestRow q effect s row ≡ bestRow q effect t row
 unfolding bestRow
-best-cong q effect s t row e = ap (λ (z : ℤ). bestChain q effect (row .chain) +ℤ better q (pos 0) (pos (row .factor) *ℤ z)) e
+best-cong q effect s t row e = ap (λ (z : ℤ). extreme q (row .others) (λ a. bestChain q effect (row .chain a)) +ℤ better q (pos 0) (pos (row .factor) *ℤ z)) e
 
 governing-cong : (q : Question) (row : ℕ → Row) (v w : ℕ → ℤ) (limit : Limit) (n : ℕ) → ((r : ℕ) → v r ≡ w r) → governing q row v limit n ≡ governing q row w limit n
 unfolding governing
@@ -52,15 +52,17 @@ module _ (job : Job) (patch : List ℕ) (a : Account) (limit : Limit) (signed : 
         unbeatenUnladen = unbeaten-unladen q job limit (governed x) value;
         unbeaten = unbeaten-laden q job limit (governed x) value signed spaced;
         rowOf = governing-row q job limit (governed x) value .0;
+        alternative = 0;
+        among = zero-le;
         mayOmit = s .right .mayOmit;
         gives =
-            ap (rowValue (job .effect) row (omits (x .omitted)))
+            ap (rowValue (job .effect) row 0 (omits (x .omitted)))
             (counted-given q job patch a (x .unladen) (row .live) (g .normals) (g .overloads) ∙ ap (λ (z : ℤ). if x .unladen then pos 0 else z) (sym (g .values (row .live))))
             ∙ s .right .gives;
         laden = s .right .laden;
       }
 
   -- the state
-  pub state-right : (most least : Live → ℤ) (s : State) → Given Greatest most → Given Least least → StateFound (job .effect) (job .row) most least limit (job .rows) s → StateRight job patch a limit s
-  state-right most least Absent g l f = no-row Greatest job limit (same-value Greatest most g ∙ f .0)
-  state-right most least (Reported x y) g l f = (row-right Greatest most x g (f .0), row-right Least least y l (f .1))
+  pub state-right : (traffic : Question → Live → ℤ) (s : State) → ((q : Question) → Given q (traffic q)) → StateFound (job .effect) (job .row) traffic limit (job .rows) s → StateRight job patch a limit s
+  state-right traffic Absent g f = no-row Greatest job limit (same-value Greatest (traffic Greatest) (g Greatest) ∙ f Greatest)
+  state-right traffic (Reported x y) g f = (row-right Greatest (traffic Greatest) x (g Greatest) (f .0), row-right Least (traffic Least) y (g Least) (f .1))

@@ -14,7 +14,7 @@ use Rattle.model.proofs.Sections.{section-length}
 use Rattle.model.proofs.Verdict.{Clear, clear, size-fits, part-inside}
 use Rattle.model.proofs.HeaderLimits.{header-fits}
 use Rattle.model.proofs.TableLimits.{effect-fits, row-fits, record-fits, no-return, no-repeat}
-use Rattle.rows.specs.Tables.{EffectsFit, RecordsFit, RowFits, TablesFit}
+use Rattle.rows.specs.Tables.{EffectsInReach, RecordsInTables, RowInTables, TablesFit}
 use Rattle.rows.proofs.Terms.{distinct-terms}
 
 module _ (b : List ℕ) (accepted : jobVerdict b ≡ none) where
@@ -24,10 +24,10 @@ module _ (b : List ℕ) (accepted : jobVerdict b ≡ none) where
   long : (part : Part) → length (sectionOf b part) ≡ 4 * words (headerOf b) part
   long part = section-length b (headerOf b) part (part-inside b (size-fits b (c .c1) (c .c3)) part)
 
-  effects : EffectsFit (sectionOf b Effects)
+  effects : EffectsInReach (sectionOf b Effects)
   effects e h k = effect-fits b (c .c6) (e - 1) (omega (arith, long Effects)) .value
 
-  records : RecordsFit (sectionOf b Effects) (sectionOf b Records)
+  records : RecordsInTables (sectionOf b Effects) (sectionOf b Records)
   records r h k =
       let f = record-fits b (c .c6) (r - 1) (omega (arith, long Records)) in
       let most = header-fits b (c .c2) .effects .most in
@@ -39,12 +39,11 @@ module _ (b : List ℕ) (accepted : jobVerdict b ≡ none) where
         next = omega (arith, f .next .most, long Records);
       }
 
-  rows : (r : ℕ) → 1 ≤ r → r ≤ headerOf b .rows → RowFits (sectionOf b Records) (headerOf b .records) (sectionOf b Rows) r
+  rows : (r : ℕ) → 1 ≤ r → r ≤ headerOf b .rows → RowInTables (sectionOf b Records) (headerOf b .records) (sectionOf b Rows) r
   rows r h k =
       let f = row-fits b (c .c6) (r - 1) (omega arith) in
       let same : r - 1 + 1 ≡ r = omega arith in
       record {
-        limit = (f .limit .least, f .limit .most);
         live = f .live .most;
         factor = f .factor .most;
         first = omega (arith, f .first .most, long Records);
@@ -55,4 +54,4 @@ module _ (b : List ℕ) (accepted : jobVerdict b ≡ none) where
       }
 
   pub tables-fit : TablesFit (sectionOf b Effects) (sectionOf b Rows) (sectionOf b Records) (headerOf b .rows) (headerOf b .records)
-  tables-fit = record { effects = effects; records = records; most = header-fits b (c .c2) .records .most; long = omega (arith, long Rows); rows = rows }
+  tables-fit = record { effects = effects; records = records; long = omega (arith, long Rows); rows = rows }

@@ -1,30 +1,58 @@
 -- What a chain's best value comes with.
-use Prim.Native.Nat.{ℕ, _*_}
+use Prim.Native.Nat.{ℕ, _-_, _^_, _≤_}
 use mathlib.Core.Path.{_≡_}
-use mathlib.Core.Bool.{Bool, false}
+use mathlib.Core.Bool.{Bool, _&&_}
 use mathlib.Core.List.{List}
-use lib.ListN.{length, getD}
+use lib.Bits.{bitOr}
+use lib.IntN.{pos, _+ℤ_}
 use Rattle.exact.specs.Bounds.{Within}
+use Rattle.exact.specs.Choice.{if_then_else_}
+use Rattle.exact.specs.Questions.{beats}
 use Rattle.exact.specs.declared.Question.{Question}
+use Rattle.exact.specs.declared.Question.the-variants.{Greatest, Least}
+use Rattle.model.specs.Magnitudes.{shareMost, chainMost}
 use Rattle.model.specs.Chains.{recordEffect, recordFactor}
 use Rattle.model.specs.Job.{Effect, Term}
-use Rattle.model.specs.Rows.{chainValue, MayOmit, bestChain}
+use Rattle.model.specs.Rows.{share, chainValue, MayOmit, bestChain}
+use Rattle.model.specs.Answered.{omits}
+use Rattle.rows.specs.declared.chain.Share.{Share}
 use Rattle.rows.specs.declared.chain.Chained.{Chained}
+use Rattle.rows.specs.declared.chain.ChainedBoth.{ChainedBoth}
 
 -- record c's content
 abbrev pub termAt : List ℕ → ℕ → Term
 termAt s c = record { effect = recordEffect s c; factor = recordFactor s c }
 
--- the effects that the flags leave out
-abbrev pub flagged : List Bool → ℕ → Bool
-flagged out e = getD out e false
+-- a share is the term's
+pub record ShareRight (effect : ℕ → Effect) (t : Term) (x : Share) : Type 0 where
+  pub value : x .value ≡ share effect t
+  pub optional : x .optional ≡ effect (t .effect) .optional
+  pub bit : x .bit ≡ 2 ^ (t .effect - 1)
+  -- there is no effect 0
+  pub first : 1 ≤ t .effect
+  -- what it may come to
+  pub near : Within shareMost (x .value)
 
--- a chain's best value is right: it equals the model's, and its flags, one for each number up to 16, are allowed and give it exactly; there is no effect 0
-pub record ChainRight (q : Question) (effect : ℕ → Effect) (terms : List Term) (left : ℕ) (x : Chained) : Type 0 where
+-- the share may be left out, and that is better
+abbrev pub leavesShare : Question → Share → Bool
+leavesShare q x = x .optional && beats q (pos 0) (x .value)
+
+-- a chain's best with one share more: its bit where it is left out, else its value
+abbrev pub extendedBy : Question → Share → Chained → Chained
+extendedBy q x sofar =
+    if leavesShare q x
+    then record { value = sofar .value; omitted = bitOr (sofar .omitted) (x .bit) }
+    else record { value = sofar .value +ℤ x .value; omitted = sofar .omitted }
+
+-- a question's best
+abbrev pub chainFor : Question → ChainedBoth → Chained
+chainFor Greatest x = x .greatest
+chainFor Least x = x .least
+
+-- a chain's best value is right: it equals the model's, and its omissions are allowed and give it exactly
+pub record ChainRight (q : Question) (effect : ℕ → Effect) (terms : List Term) (x : Chained) : Type 0 where
   pub value : x .value ≡ bestChain q effect terms
-  pub gives : chainValue effect (flagged (x .out)) terms ≡ x .value
-  pub mayOmit : MayOmit effect terms (flagged (x .out))
-  pub long : length (x .out) ≡ 17
-  pub none : flagged (x .out) 0 ≡ false
-  -- what it may come to, of at most so many records
-  pub bound : Within (3000000000000000 * left) (x .value)
+  pub gives : chainValue effect (omits (x .omitted)) terms ≡ x .value
+  pub mayOmit : MayOmit effect terms (omits (x .omitted))
+  -- what it may come to
+  pub near : Within chainMost (x .value)

@@ -1,40 +1,74 @@
 -- What a row's best value, and a limit state's, come with.
 use Prim.Native.Nat.{ℕ}
 use mathlib.Core.Path.{_≡_}
-use mathlib.Core.Bool.{true, false}
+use mathlib.Core.Bool.{Bool, true, false}
 use mathlib.Core.Option.{Option, none, some}
-use lib.IntN.{ℤ, pos}
+use lib.Dec.{eqb}
+use lib.IntN.{ℤ, pos, _+ℤ_}
 use Rattle.exact.specs.Bounds.{Within}
 use Rattle.exact.specs.Choice.{if_then_else_}
 use Rattle.exact.specs.Questions.{beats}
 use Rattle.exact.specs.declared.Question.{Question}
 use Rattle.exact.specs.declared.Question.the-variants.{Greatest, Least}
-use Rattle.model.specs.Job.{Effect, Limit, Live, noTraffic, normal, overload, Row}
+use Rattle.model.specs.Magnitudes.{trafficMost}
+use Rattle.model.specs.Job.{Effect, Limit, service, ultimate, Live, noTraffic, normal, overload, Row}
 use Rattle.model.specs.Rows.{rowValue, MayOmit, bestRow, Governs, governing}
 use Rattle.model.specs.Answered.{omits}
 use Rattle.model.specs.declared.Governing.{Governing}
 use Rattle.model.specs.declared.State.{State}
 use Rattle.model.specs.declared.State.the-variants.{Absent, Reported}
-use Rattle.rows.specs.declared.state.Live.{Live as Values}
+use Rattle.rows.specs.declared.chain.Chained.{Chained}
+use Rattle.rows.specs.declared.state.LiveValues.{LiveValues}
+use Rattle.rows.specs.declared.state.LiveBoth.{LiveBoth}
+use Rattle.rows.specs.declared.state.RowBoth.{RowBoth}
 use Rattle.rows.specs.declared.state.Found.{Found}
+use Rattle.rows.specs.declared.state.LimitStates.{LimitStates}
 
+-- ---- traffic
 -- the traffic value of a live kind; without traffic it is 0
-abbrev pub trafficOf : Values → Live → ℤ
-trafficOf v noTraffic = pos 0
-trafficOf v normal = v .normal
-trafficOf v overload = v .overload
+abbrev pub liveValue : LiveValues → Live → ℤ
+liveValue v noTraffic = pos 0
+liveValue v normal = v .normal
+liveValue v overload = v .overload
 
--- both are within reach of the arithmetic
-abbrev pub LiveFits : Values → Type 0
-LiveFits v = Within 1000000000000 (v .normal) × Within 1000000000000 (v .overload)
+-- a question's values
+abbrev pub liveFor : Question → LiveBoth → LiveValues
+liveFor Greatest v = v .greatest
+liveFor Least v = v .least
 
--- a row's value is right: it equals the model's, its omissions are allowed and, with the traffic where it counts, give it exactly; where the row has no traffic, none is left out
+-- a question's traffic value of a live kind
+abbrev pub trafficOf : LiveBoth → Question → Live → ℤ
+trafficOf v q = liveValue (liveFor q v)
+
+-- the values of both live kinds are within reach of the arithmetic
+abbrev pub PairFits : LiveValues → Type 0
+PairFits v = Within trafficMost (v .normal) × Within trafficMost (v .overload)
+
+-- the values of both questions are
+abbrev pub LiveFits : LiveBoth → Type 0
+LiveFits v = (q : Question) → PairFits (liveFor q v)
+
+-- ---- a row
+-- row r by its chain and its traffic: the traffic is left out where that is better
+abbrev pub ladenRow : Question → ℕ → Chained → ℤ → Governing
+ladenRow q r chain loaded =
+    if beats q (pos 0) loaded
+    then record { value = chain .value; row = r; omitted = chain .omitted; unladen = true }
+    else record { value = chain .value +ℤ loaded; row = r; omitted = chain .omitted; unladen = false }
+
+-- a question's row
+abbrev pub rowFor : Question → RowBoth → Governing
+rowFor Greatest x = x .greatest
+rowFor Least x = x .least
+
+-- a row's value is right: it equals the model's, its omissions are allowed by its first alternative and, with the traffic where it counts, give it exactly; where the row has no traffic, none is left out
 pub record RowRight (q : Question) (effect : ℕ → Effect) (row : ℕ → Row) (traffic : Live → ℤ) (x : Governing) : Type 0 where
   pub value : x .value ≡ bestRow q effect traffic (row (x .row))
-  pub mayOmit : MayOmit effect (row (x .row) .chain) (omits (x .omitted))
-  pub gives : rowValue effect (row (x .row)) (omits (x .omitted)) (if x .unladen then pos 0 else traffic (row (x .row) .live)) ≡ x .value
+  pub mayOmit : MayOmit effect (row (x .row) .chain 0) (omits (x .omitted))
+  pub gives : rowValue effect (row (x .row)) 0 (omits (x .omitted)) (if x .unladen then pos 0 else traffic (row (x .row) .live)) ≡ x .value
   pub laden : row (x .row) .live ≡ noTraffic → x .unladen ≡ false
 
+-- ---- the governing rows
 -- the best of a state's rows among rows 1 .. n, each at its best
 abbrev pub governs : Question → (effect : ℕ → Effect) → (row : ℕ → Row) → (traffic : Live → ℤ) → Limit → ℕ → Option Governs
 governs q effect row traffic limit n = governing q row (λ r. bestRow q effect traffic (row r)) limit n
@@ -43,21 +77,46 @@ governs q effect row traffic limit n = governing q row (λ r. bestRow q effect t
 abbrev pub governed : Governing → Governs
 governed x = record { value = x .value; row = x .row }
 
--- the row found, if there is one
-abbrev pub found : Found → Option Governs
-found f = if f .any then some (governed (f .best)) else none
+-- the row found; row 0 is none
+abbrev pub found : Governing → Option Governs
+found x = if eqb (x .row) 0 then none else some (governed x)
 
 -- the later row if it beats the earlier, or if there is none
-abbrev pub laterFound : Question → Found → Governing → Found
-laterFound q sofar next =
-    if sofar .any
-    then (if beats q (next .value) (sofar .best .value) then record { any = true; best = next } else record { any = true; best = sofar .best })
-    else record { any = true; best = next }
+abbrev pub laterRow : Question → Governing → Governing → Governing
+laterRow q sofar next = if eqb (sofar .row) 0 then next else (if beats q (next .value) (sofar .value) then next else sofar)
 
--- what was found among rows 1 .. n is the governing row, and its value is right
-pub record FoundRight (q : Question) (effect : ℕ → Effect) (row : ℕ → Row) (traffic : Live → ℤ) (limit : Limit) (n : ℕ) (f : Found) : Type 0 where
-  pub is : governs q effect row traffic limit n ≡ found f
-  pub right : f .any ≡ true → RowRight q effect row traffic (f .best)
+-- for each question by itself
+abbrev pub laterRows : RowBoth → RowBoth → RowBoth
+laterRows sofar next = record { greatest = laterRow Greatest (sofar .greatest) (next .greatest); least = laterRow Least (sofar .least) (next .least) }
+
+-- a row of the service state, or of the ultimate, more
+abbrev pub withRow : Bool → Found → RowBoth → Found
+withRow true x next = record { service = laterRows (x .service) next; ultimate = x .ultimate }
+withRow false x next = record { service = x .service; ultimate = laterRows (x .ultimate) next }
+
+-- a limit state's rows
+abbrev pub foundFor : Limit → Found → RowBoth
+foundFor service x = x .service
+foundFor ultimate x = x .ultimate
+
+-- row x is the governing one among rows 1 .. n, and its value is right
+pub record Leads (q : Question) (effect : ℕ → Effect) (row : ℕ → Row) (traffic : Live → ℤ) (limit : Limit) (n : ℕ) (x : Governing) : Type 0 where
+  pub is : governs q effect row traffic limit n ≡ found x
+  pub right : eqb (x .row) 0 ≡ false → RowRight q effect row traffic x
+
+-- what was found is the governing row of each limit state for each question
+abbrev pub FoundRight : (effect : ℕ → Effect) → (row : ℕ → Row) → (traffic : Question → Live → ℤ) → ℕ → Found → Type 0
+FoundRight effect row traffic n x = (limit : Limit) (q : Question) → Leads q effect row (traffic q) limit n (rowFor q (foundFor limit x))
+
+-- ---- the limit states
+-- a limit state by its governing rows: none where there is no row
+abbrev pub stateBy : RowBoth → State
+stateBy x = if eqb (x .greatest .row) 0 then Absent else Reported (x .greatest) (x .least)
+
+-- one of the two
+abbrev pub stateFor : Limit → LimitStates → State
+stateFor service x = x .service
+stateFor ultimate x = x .ultimate
 
 -- a limit state's value is that of its governing row, and is right
 pub record StateRow (q : Question) (effect : ℕ → Effect) (row : ℕ → Row) (traffic : Live → ℤ) (limit : Limit) (n : ℕ) (x : Governing) : Type 0 where
@@ -65,6 +124,6 @@ pub record StateRow (q : Question) (effect : ℕ → Effect) (row : ℕ → Row)
   pub right : RowRight q effect row traffic x
 
 -- none where the state has no row, and only there; else the governing row of each question
-abbrev pub StateFound : (effect : ℕ → Effect) → (row : ℕ → Row) → (most least : Live → ℤ) → Limit → ℕ → State → Type 0
-StateFound effect row most least limit n Absent = (governs Greatest effect row most limit n ≡ none) × (governs Least effect row least limit n ≡ none)
-StateFound effect row most least limit n (Reported g l) = StateRow Greatest effect row most limit n g × StateRow Least effect row least limit n l
+abbrev pub StateFound : (effect : ℕ → Effect) → (row : ℕ → Row) → (traffic : Question → Live → ℤ) → Limit → ℕ → State → Type 0
+StateFound effect row traffic limit n Absent = (q : Question) → governs q effect row (traffic q) limit n ≡ none
+StateFound effect row traffic limit n (Reported g l) = StateRow Greatest effect row (traffic Greatest) limit n g × StateRow Least effect row (traffic Least) limit n l

@@ -1,22 +1,19 @@
 -- What is asked of the effect, row and record sections before they are combined. An item's words are in its section where the item's number times its bytes is at most the section's length.
 use Prim.Native.Nat.{ℕ, _+_, _-_, _*_, _≤_}
-use mathlib.Core.Path.{_≡_}
-use mathlib.Core.Bool.{false}
-use mathlib.Core.List.{List, [], _∷_}
+use mathlib.Core.List.{List}
 use lib.ListN.{length}
 use Rattle.exact.specs.Bounds.{Within}
 use Rattle.model.specs.Words.{wordAt, countAt}
 use Rattle.model.specs.Chains.{recordEffect, recordFactor, nextRecord}
 use Rattle.model.specs.Decode.{firstRecord, termsFrom}
-use Rattle.model.specs.Job.{Term}
-use Rattle.model.specs.Rows.{names}
+use Rattle.model.specs.Rows.{Distinct}
 
 -- every effect's value, in kN·U, is within its limits
-abbrev pub EffectsFit : List ℕ → Type 0
-EffectsFit s = (e : ℕ) → 1 ≤ e → 8 * e ≤ length s → Within 1000000000 (wordAt s (2 * (e - 1)))
+abbrev pub EffectsInReach : List ℕ → Type 0
+EffectsInReach s = (e : ℕ) → 1 ≤ e → 8 * e ≤ length s → Within 1000000000 (wordAt s (2 * (e - 1)))
 
 -- record c names an effect of the section, at most 16; its factor is within its limits, and its next is a record or 0
-pub record RecordFits (effects s : List ℕ) (c : ℕ) : Type 0 where
+pub record RecordInTables (effects s : List ℕ) (c : ℕ) : Type 0 where
   pub effect : 1 ≤ recordEffect s c
   pub most : recordEffect s c ≤ 16
   pub there : 8 * recordEffect s c ≤ length effects
@@ -24,17 +21,11 @@ pub record RecordFits (effects s : List ℕ) (c : ℕ) : Type 0 where
   pub next : 12 * nextRecord s c ≤ length s
 
 -- every record is such
-abbrev pub RecordsFit : (effects : List ℕ) → List ℕ → Type 0
-RecordsFit effects s = (c : ℕ) → 1 ≤ c → 12 * c ≤ length s → RecordFits effects s c
-
--- no two of the terms name the same effect
-abbrev pub Distinct : List Term → Type 0
-Distinct [] = Unit {0}
-Distinct (t ∷ rest) = (names rest (t .effect) ≡ false) × Distinct rest
+abbrev pub RecordsInTables : (effects : List ℕ) → List ℕ → Type 0
+RecordsInTables effects s = (c : ℕ) → 1 ≤ c → 12 * c ≤ length s → RecordInTables effects s c
 
 -- row r's words are within their limits, its first record is a record or 0, and its chain, of at most `count` records, names no effect twice
-pub record RowFits (records : List ℕ) (count : ℕ) (s : List ℕ) (r : ℕ) : Type 0 where
-  pub limit : (1 ≤ countAt s (4 * (r - 1))) × (countAt s (4 * (r - 1)) ≤ 2)
+pub record RowInTables (records : List ℕ) (count : ℕ) (s : List ℕ) (r : ℕ) : Type 0 where
   pub live : countAt s (4 * (r - 1) + 1) ≤ 2
   pub factor : countAt s (4 * (r - 1) + 2) ≤ 3000
   pub first : 12 * firstRecord s r ≤ length records
@@ -42,8 +33,7 @@ pub record RowFits (records : List ℕ) (count : ℕ) (s : List ℕ) (r : ℕ) :
 
 -- the three sections together, of n rows and chains of at most `count` records
 pub record TablesFit (e w s : List ℕ) (n count : ℕ) : Type 0 where
-  pub effects : EffectsFit e
-  pub records : RecordsFit e s
-  pub most : count ≤ 512
+  pub effects : EffectsInReach e
+  pub records : RecordsInTables e s
   pub long : 16 * n ≤ length w
-  pub rows : (r : ℕ) → 1 ≤ r → r ≤ n → RowFits s count w r
+  pub rows : (r : ℕ) → 1 ≤ r → r ≤ n → RowInTables s count w r

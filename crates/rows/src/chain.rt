@@ -1,23 +1,20 @@
-// A chain's best value, each effect marked 2 counting or left out.
+// A chain's best value for each question, each effect marked 2 counting or left out.
 use exact::Question;
 ghost use mathlib.Core.Path.{_≡_};
-ghost use mathlib.Core.Bool.{true, false, _&&_};
-ghost use Prim.Native.Nat.{ℕ, _+_, _-_, _*_, _≤_};
-ghost use lib.IntN.{pos};
+ghost use Prim.Native.Nat.{_-_, _*_, _^_, _≤_};
 ghost use lib.ListN.{length};
 ghost use Rattle.exact.specs.Bounds.{Within};
-ghost use Rattle.exact.specs.Choice.{if_then_else_};
-ghost use Rattle.exact.specs.Questions.{beats};
+ghost use Rattle.exact.specs.declared.Question.{Question};
+ghost use Rattle.model.specs.Magnitudes.{effectMost, shareMost, chainMost};
 ghost use Rattle.model.specs.Decode.{effectAt, termsFrom};
-ghost use Rattle.model.specs.Rows.{share as shareOf};
-ghost use Rattle.model.specs.Answered.{omits};
-ghost use Rattle.rows.specs.Tables.{EffectsFit, RecordsFit, Distinct};
-ghost use Rattle.rows.specs.Chained.{termAt, flagged, ChainRight};
+ghost use Rattle.model.specs.Rows.{Distinct};
+ghost use Rattle.rows.specs.Tables.{EffectsInReach, RecordsInTables};
+ghost use Rattle.rows.specs.Chained.{termAt, ShareRight, leavesShare, extendedBy, chainFor, ChainRight};
 
 // Effect e's value in N·U.
 fn effect_value(effects: &[u8], e: usize) -> i64
-    requires { ⌜ EffectsFit (now effects) × (1 ≤ e) × (8 * e ≤ length (now effects)) ⌝ }
-    ensures { λ r. ⌜ (r ≡ effectAt (now (effects .entry)) e .value) × Within 1000000000000 r ⌝ }
+    requires { ⌜ EffectsInReach (now effects) × (1 ≤ e) × (8 * e ≤ length (now effects)) ⌝ }
+    ensures { λ r. ⌜ (r ≡ effectAt (now (effects .entry)) e .value) × Within effectMost r ⌝ }
 {
     1000 * words::word(effects, 2 * (e - 1))
 }
@@ -30,80 +27,95 @@ fn optional(effects: &[u8], e: usize) -> bool
     words::count(effects, 2 * (e - 1) + 1) == 2
 }
 
-// Record c's share: its factor times its effect's value.
-fn share(effects: &[u8], records: &[u8], c: usize) -> i64
-    requires { ⌜ EffectsFit (now effects) × RecordsFit (now effects) (now records) × (1 ≤ c) × (12 * c ≤ length (now records)) ⌝ }
-    ensures { λ r. ⌜ (r ≡ shareOf (effectAt (now (effects .entry))) (termAt (now (records .entry)) c)) × Within 3000000000000000 r ⌝ }
+// Effect e's bit among those left out, effect 1's the lowest.
+fn bit_of(e: usize) -> u32
+    requires { ⌜ (1 ≤ e) × (e ≤ 16) ⌝ }
+    ensures { λ r. ⌜ r ≡ 2 ^ (e - 1) ⌝ }
 {
-    (chains::factor(records, c) as i64) * effect_value(effects, chains::effect(records, c))
+    1u32 << ((e - 1) as u32)
 }
 
-// Record c is left out: that is allowed and better.
-fn leaves(q: Question, effects: &[u8], records: &[u8], c: usize) -> bool
-    requires { ⌜ EffectsFit (now effects) × RecordsFit (now effects) (now records) × (1 ≤ c) × (12 * c ≤ length (now records)) ⌝ }
-    ensures { λ r. ⌜ r ≡ (effectAt (now (effects .entry)) (termAt (now (records .entry)) c .effect) .optional && beats q (pos 0) (shareOf (effectAt (now (effects .entry))) (termAt (now (records .entry)) c))) ⌝ }
+// A record's share of a row's value: its factor times its effect's value; whether it may be left out, and its effect's bit.
+pub struct Share {
+    pub value: i64,
+    pub optional: bool,
+    pub bit: u32,
+}
+
+// Record c's share.
+fn share_of(effects: &[u8], records: &[u8], c: usize) -> Share
+    requires { ⌜ EffectsInReach (now effects) × RecordsInTables (now effects) (now records) × (1 ≤ c) × (12 * c ≤ length (now records)) ⌝ }
+    ensures { λ r. ⌜ ShareRight (effectAt (now (effects .entry))) (termAt (now (records .entry)) c) r ⌝ }
 {
-    if optional(effects, chains::effect(records, c)) {
-        return exact::beats(q, 0, share(effects, records, c));
+    let e = chains::effect(records, c);
+    Share {
+        value: (chains::factor(records, c) as i64) * effect_value(effects, e),
+        optional: optional(effects, e),
+        bit: bit_of(e),
+    }
+}
+
+// The share is left out: that is allowed and better.
+fn leaves(q: Question, share: Share) -> bool
+    ensures { λ r. ⌜ r ≡ leavesShare q share ⌝ }
+{
+    if share.optional {
+        return exact::beats(q, 0, share.value);
     }
     false
 }
 
-// A chain's best value, and for each effect whether it is left out.
+// A chain's best value for a question, and the effects left out, a bit an effect.
 pub struct Chained {
     pub value: i64,
-    pub out: [bool; 17],
+    pub omitted: u32,
 }
 
-// Of the chain from record c, of at most so many records.
-pub(crate) fn best(q: Question, effects: &[u8], records: &[u8], c: usize, left: usize) -> Chained
-    requires { ⌜ EffectsFit (now effects) × RecordsFit (now effects) (now records) × (12 * c ≤ length (now records)) × (left ≤ 512) × Distinct (termsFrom (now records) left c) ⌝ }
-    ensures { λ r. ⌜ ChainRight q (effectAt (now (effects .entry))) (termsFrom (now (records .entry)) left c) left r ⌝ }
+// A chain's best with one share more, which is left out or counts.
+fn extended(q: Question, share: Share, sofar: Chained) -> Chained
+    requires { ⌜ Within shareMost (share .value) × Within chainMost (sofar .value) ⌝ }
+    ensures { λ r. ⌜ r ≡ extendedBy q share sofar ⌝ }
 {
-    if c == 0 {
-        let out = [false; 17];
-        return Chained { value: 0, out };
-    }
-    if left == 0 {
-        let out = [false; 17];
-        return Chained { value: 0, out };
-    }
-    let rest = best(q, effects, records, chains::next(records, c), left - 1);
-    let mut out = rest.out;
-    if leaves(q, effects, records, c) {
-        let e = chains::effect(records, c);
-        out[e] = true;
+    if leaves(q, share) {
         return Chained {
-            value: rest.value,
-            out,
+            value: sofar.value,
+            omitted: sofar.omitted | share.bit,
         };
     }
     Chained {
-        value: share(effects, records, c) + rest.value,
-        out,
+        value: sofar.value + share.value,
+        omitted: sofar.omitted,
     }
 }
 
-// An effect's weight in the number of those left out.
-fn weight(out: bool, power: u32) -> u32
-    ensures { λ r. ⌜ r ≡ (if out then 1 else 0) * power ⌝ }
-{
-    if out {
-        return power;
-    }
-    0
+// A chain's best for each question.
+pub struct ChainedBoth {
+    pub greatest: Chained,
+    pub least: Chained,
 }
 
-// The effects left out as a number, a bit an effect, effect 1 the lowest.
-pub(crate) fn omitted(out: [bool; 17]) -> u32
-    requires { ⌜ flagged out 0 ≡ false ⌝ }
-    ensures { λ r. ⌜ ((e : ℕ) → omits r e ≡ flagged out e) ⌝ }
+// The best of the chain from a first record, of at most so many records.
+pub(crate) fn best(effects: &[u8], records: &[u8], first: usize, count: usize) -> ChainedBoth
+    requires { ⌜ EffectsInReach (now effects) × RecordsInTables (now effects) (now records) × (12 * first ≤ length (now records)) × Distinct (termsFrom (now records) count first) ⌝ }
+    ensures { λ r. ⌜ ((q : Question) → ChainRight q (effectAt (now (effects .entry))) (termsFrom (now (records .entry)) count first) (chainFor q r)) ⌝ }
 {
-    let mut sum: u32 = 0;
-    let mut power: u32 = 1;
-    for i in 0..16 {
-        sum += weight(out[i + 1], power);
-        power = 2 * power;
+    let mut greatest = Chained {
+        value: 0,
+        omitted: 0,
+    };
+    let mut least = Chained {
+        value: 0,
+        omitted: 0,
+    };
+    let mut c = first;
+    for _ in 0..count {
+        if c == 0 {
+            return ChainedBoth { greatest, least };
+        }
+        let own = share_of(effects, records, c);
+        greatest = extended(Question::Greatest, own, greatest);
+        least = extended(Question::Least, own, least);
+        c = chains::next(records, c);
     }
-    sum
+    ChainedBoth { greatest, least }
 }

@@ -1,27 +1,39 @@
-// The rows' best values, and the governing row of a limit state for each question.
+// The rows' best values, and the governing row of each limit state for each question.
 use crate::chain;
+use crate::chain::Chained;
 use exact::Question;
 use model::Governing;
 use model::State;
 ghost use mathlib.Core.Path.{_≡_};
-ghost use Prim.Native.Nat.{_+_, _-_, _*_, _≤_};
+ghost use Prim.Native.Nat.{_+_, _-_, _*_, _≤_, _<_};
+ghost use lib.Dec.{eqb};
+ghost use lib.IntN.{pos, _*ℤ_};
 ghost use lib.ListN.{length};
 ghost use Rattle.exact.specs.Bounds.{Within};
+ghost use Rattle.exact.specs.declared.Question.{Question};
+ghost use Rattle.model.specs.Magnitudes.{trafficMost, shareMost, chainMost};
 ghost use Rattle.model.specs.Words.{countAt};
-ghost use Rattle.model.specs.Decode.{effectAt, limitOf, liveOf, rowAt};
+ghost use Rattle.model.specs.Decode.{effectAt, liveOf, firstRecord, rowAt};
+ghost use Rattle.model.specs.Job.{Limit};
 ghost use Rattle.rows.specs.Tables.{TablesFit};
-ghost use Rattle.rows.specs.Governed.{trafficOf, LiveFits, RowRight, laterFound, FoundRight, StateFound};
+ghost use Rattle.rows.specs.Governed.{liveValue, trafficOf, PairFits, LiveFits, ladenRow, rowFor, RowRight, laterRow, laterRows, withRow, FoundRight, stateBy, stateFor, StateFound};
 
-// The greatest (least) traffic values.
-pub struct Live {
+// The best traffic value of each live kind for one question, in N·U.
+pub struct LiveValues {
     pub normal: i64,
     pub overload: i64,
 }
 
+// The best traffic values for both questions.
+pub struct LiveBoth {
+    pub greatest: LiveValues,
+    pub least: LiveValues,
+}
+
 // The traffic value of a row's live kind.
-fn traffic(kind: usize, live: Live) -> i64
-    requires { ⌜ (kind ≤ 2) × LiveFits live ⌝ }
-    ensures { λ r. ⌜ (r ≡ trafficOf live (liveOf kind)) × Within 1000000000000 r ⌝ }
+fn traffic(kind: usize, live: LiveValues) -> i64
+    requires { ⌜ (kind ≤ 2) × PairFits live ⌝ }
+    ensures { λ r. ⌜ (r ≡ liveValue live (liveOf kind)) × Within trafficMost r ⌝ }
 {
     if kind == 1 {
         return live.normal;
@@ -32,113 +44,146 @@ fn traffic(kind: usize, live: Live) -> i64
     0
 }
 
-// Row r's first record.
-fn first_record(rows: &[u8], r: usize) -> usize
-    requires { ⌜ (1 ≤ r) × (16 * r ≤ length (now rows)) ⌝ }
-    ensures { λ f. ⌜ f ≡ countAt (now (rows .entry)) (4 * (r - 1) + 3) ⌝ }
+// Row r's word j, from 0, as a count.
+fn word(rows: &[u8], r: usize, j: usize) -> usize
+    requires { ⌜ (1 ≤ r) × (16 * r ≤ length (now rows)) × (j < 4) ⌝ }
+    ensures { λ x. ⌜ (x ≡ countAt (now (rows .entry)) (4 * (r - 1) + j)) × (x ≤ 2147483648) ⌝ }
 {
-    words::count(rows, 4 * (r - 1) + 3)
+    words::count(rows, 4 * (r - 1) + j)
 }
 
-// Row r's best value.
-fn row(
-    q: Question,
-    effects: &[u8],
-    rows: &[u8],
-    records: &[u8],
-    count: usize,
-    live: Live,
-    r: usize,
-) -> Governing
-    requires { ⌜ TablesFit (now effects) (now rows) (now records) r count × (1 ≤ r) × LiveFits live ⌝ }
-    ensures { λ x. ⌜ x .row ≡ r ⌝ }
-    ensures { λ x. ⌜ RowRight q (effectAt (now (effects .entry))) (rowAt (now (rows .entry)) (now (records .entry)) count) (trafficOf live) x ⌝ }
+// Row r's traffic: its live factor times the value of its live kind.
+fn loaded(rows: &[u8], r: usize, live: LiveValues) -> i64
+    requires { ⌜ (1 ≤ r) × (16 * r ≤ length (now rows)) × (countAt (now rows) (4 * (r - 1) + 1) ≤ 2) × (countAt (now rows) (4 * (r - 1) + 2) ≤ 3000) × PairFits live ⌝ }
+    ensures { λ x. ⌜ (x ≡ pos (countAt (now (rows .entry)) (4 * (r - 1) + 2)) *ℤ liveValue live (liveOf (countAt (now (rows .entry)) (4 * (r - 1) + 1)))) × Within shareMost x ⌝ }
 {
-    let first = first_record(rows, r);
-    let c = chain::best(q, effects, records, first, count);
-    let out = c.out;
-    let omitted = chain::omitted(out);
-    let kind = words::count(rows, 4 * (r - 1) + 1);
-    let factor = words::count(rows, 4 * (r - 1) + 2);
-    let loaded = (factor as i64) * traffic(kind, live);
+    let kind = word(rows, r, 1);
+    let factor = word(rows, r, 2);
+    (factor as i64) * traffic(kind, live)
+}
+
+// Row r by its chain and its traffic, which counts or is left out.
+fn laden(q: Question, r: usize, chain: Chained, loaded: i64) -> Governing
+    requires { ⌜ Within chainMost (chain .value) × Within shareMost loaded ⌝ }
+    ensures { λ x. ⌜ x ≡ ladenRow q r chain loaded ⌝ }
+{
     if exact::beats(q, 0, loaded) {
         return Governing {
-            value: c.value,
+            value: chain.value,
             row: r,
-            omitted,
+            omitted: chain.omitted,
             unladen: true,
         };
     }
     Governing {
-        value: c.value + loaded,
+        value: chain.value + loaded,
         row: r,
-        omitted,
+        omitted: chain.omitted,
         unladen: false,
     }
 }
 
-// The governing row so far, if there is one.
-pub struct Found {
-    pub any: bool,
-    pub best: Governing,
+// A row's best value for each question; row 0 stands for none.
+pub struct RowBoth {
+    pub greatest: Governing,
+    pub least: Governing,
 }
 
-// The later row if it beats the earlier.
-fn later(q: Question, sofar: Found, next: Governing) -> Found
-    ensures { λ f. ⌜ f ≡ laterFound q sofar next ⌝ }
+// Row r's first record.
+fn first_record(rows: &[u8], r: usize) -> usize
+    requires { ⌜ (1 ≤ r) × (16 * r ≤ length (now rows)) ⌝ }
+    ensures { λ f. ⌜ f ≡ firstRecord (now (rows .entry)) r ⌝ }
 {
-    let best = sofar.best;
-    if sofar.any {
-        if exact::beats(q, next.value, best.value) {
-            return Found {
-                any: true,
-                best: next,
-            };
-        }
-        return Found { any: true, best };
-    }
-    Found {
-        any: true,
-        best: next,
-    }
+    word(rows, r, 3)
 }
 
-// Row r taken into account, where it is of the limit state.
-fn step(
-    q: Question,
+// Row r's best value for each question.
+fn row(
     effects: &[u8],
     rows: &[u8],
     records: &[u8],
     count: usize,
-    live: Live,
-    limit: usize,
-    sofar: Found,
+    live: LiveBoth,
     r: usize,
-) -> Found
-    requires { ⌜ TablesFit (now effects) (now rows) (now records) r count × (1 ≤ r) × LiveFits live × (1 ≤ limit) × (limit ≤ 2) ⌝ }
-    requires { ⌜ FoundRight q (effectAt (now effects)) (rowAt (now rows) (now records) count) (trafficOf live) (limitOf limit) (r - 1) sofar ⌝ }
-    ensures { λ f. ⌜ FoundRight q (effectAt (now (effects .entry))) (rowAt (now (rows .entry)) (now (records .entry)) count) (trafficOf live) (limitOf limit) r f ⌝ }
+) -> RowBoth
+    requires { ⌜ TablesFit (now effects) (now rows) (now records) r count × (1 ≤ r) × LiveFits live ⌝ }
+    ensures { λ x. ⌜ ((q : Question) → (rowFor q x .row ≡ r) × RowRight q (effectAt (now (effects .entry))) (rowAt (now (rows .entry)) (now (records .entry)) count) (trafficOf live q) (rowFor q x)) ⌝ }
 {
-    if words::count(rows, 4 * (r - 1)) == limit {
-        let next = row(q, effects, rows, records, count, live, r);
-        return later(q, sofar, next);
+    let c = chain::best(effects, records, first_record(rows, r), count);
+    let most = loaded(rows, r, live.greatest);
+    let least = loaded(rows, r, live.least);
+    RowBoth {
+        greatest: laden(Question::Greatest, r, c.greatest, most),
+        least: laden(Question::Least, r, c.least, least),
+    }
+}
+
+// The later row if it beats the earlier, or if there is none.
+fn later(q: Question, sofar: Governing, next: Governing) -> Governing
+    ensures { λ x. ⌜ x ≡ laterRow q sofar next ⌝ }
+{
+    if sofar.row == 0 {
+        return next;
+    }
+    if exact::beats(q, next.value, sofar.value) {
+        return next;
     }
     sofar
 }
 
-// The governing row among so many.
+// The later row for each question by itself.
+fn later_both(sofar: RowBoth, next: RowBoth) -> RowBoth
+    ensures { λ x. ⌜ x ≡ laterRows sofar next ⌝ }
+{
+    RowBoth {
+        greatest: later(Question::Greatest, sofar.greatest, next.greatest),
+        least: later(Question::Least, sofar.least, next.least),
+    }
+}
+
+// The governing rows so far, of each limit state for each question.
+pub struct Found {
+    pub service: RowBoth,
+    pub ultimate: RowBoth,
+}
+
+// What is found with one row more, which is of the service state or of the ultimate.
+fn with_row(service: bool, sofar: Found, next: RowBoth) -> Found
+    ensures { λ x. ⌜ x ≡ withRow service sofar next ⌝ }
+{
+    let served = sofar.service;
+    let ultimate = sofar.ultimate;
+    if service {
+        return Found {
+            service: later_both(served, next),
+            ultimate,
+        };
+    }
+    Found {
+        service: served,
+        ultimate: later_both(ultimate, next),
+    }
+}
+
+// Row r is of the service state.
+fn of_service(rows: &[u8], r: usize) -> bool
+    requires { ⌜ (1 ≤ r) × (16 * r ≤ length (now rows)) ⌝ }
+    ensures { λ b. ⌜ b ≡ eqb (countAt (now (rows .entry)) (4 * (r - 1))) 1 ⌝ }
+{
+    word(rows, r, 0) == 1
+}
+
+// The governing rows among rows 1 to n.
 fn governing(
-    q: Question,
     effects: &[u8],
     rows: &[u8],
     records: &[u8],
     n: usize,
     count: usize,
-    live: Live,
-    limit: usize,
+    live: LiveBoth,
 ) -> Found
-    requires { ⌜ TablesFit (now effects) (now rows) (now records) n count × LiveFits live × (1 ≤ limit) × (limit ≤ 2) ⌝ }
-    ensures { λ f. ⌜ FoundRight q (effectAt (now (effects .entry))) (rowAt (now (rows .entry)) (now (records .entry)) count) (trafficOf live) (limitOf limit) n f ⌝ }
+    requires { ⌜ TablesFit (now effects) (now rows) (now records) n count × LiveFits live ⌝ }
+    ensures { λ x. ⌜ FoundRight (effectAt (now (effects .entry))) (rowAt (now (rows .entry)) (now (records .entry)) count) (trafficOf live) n x ⌝ }
 {
     let none = Governing {
         value: 0,
@@ -146,57 +191,56 @@ fn governing(
         omitted: 0,
         unladen: false,
     };
+    let nothing = RowBoth {
+        greatest: none,
+        least: none,
+    };
     let mut found = Found {
-        any: false,
-        best: none,
+        service: nothing,
+        ultimate: nothing,
     };
     for i in 0..n {
-        found = step(q, effects, rows, records, count, live, limit, found, i + 1);
+        let next = row(effects, rows, records, count, live, i + 1);
+        found = with_row(of_service(rows, i + 1), found, next);
     }
     found
 }
 
-// A limit state, 1 service or 2 ultimate.
-pub fn state(
+// A limit state by its governing rows.
+fn state(rows: RowBoth) -> State
+    ensures { λ s. ⌜ s ≡ stateBy rows ⌝ }
+{
+    let greatest = rows.greatest;
+    let least = rows.least;
+    if greatest.row == 0 {
+        return State::Absent;
+    }
+    State::Reported { greatest, least }
+}
+
+// The two limit states.
+pub struct LimitStates {
+    pub service: State,
+    pub ultimate: State,
+}
+
+// The limit states of n rows, with chains of at most `count` records.
+pub fn states(
     effects: &[u8],
     rows: &[u8],
     records: &[u8],
     n: usize,
     count: usize,
-    most: Live,
-    least: Live,
-    limit: usize,
-) -> State
-    requires { ⌜ TablesFit (now effects) (now rows) (now records) n count × LiveFits most × LiveFits least × (1 ≤ limit) × (limit ≤ 2) ⌝ }
-    ensures { λ s. ⌜ StateFound (effectAt (now (effects .entry))) (rowAt (now (rows .entry)) (now (records .entry)) count) (trafficOf most) (trafficOf least) (limitOf limit) n s ⌝ }
+    live: LiveBoth,
+) -> LimitStates
+    requires { ⌜ TablesFit (now effects) (now rows) (now records) n count × LiveFits live ⌝ }
+    ensures { λ s. ⌜ ((limit : Limit) → StateFound (effectAt (now (effects .entry))) (rowAt (now (rows .entry)) (now (records .entry)) count) (trafficOf live) limit n (stateFor limit s)) ⌝ }
 {
-    let g = governing(
-        Question::Greatest,
-        effects,
-        rows,
-        records,
-        n,
-        count,
-        most,
-        limit,
-    );
-    let l = governing(
-        Question::Least,
-        effects,
-        rows,
-        records,
-        n,
-        count,
-        least,
-        limit,
-    );
-    if g.any {
-        let greatest = g.best;
-        let lowest = l.best;
-        return State::Reported {
-            greatest,
-            least: lowest,
-        };
+    let found = governing(effects, rows, records, n, count, live);
+    let served = found.service;
+    let ultimate = found.ultimate;
+    LimitStates {
+        service: state(served),
+        ultimate: state(ultimate),
     }
-    State::Absent
 }

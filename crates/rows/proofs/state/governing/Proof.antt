@@ -1,34 +1,47 @@
-use mathlib.Core.Path.{_≡_, refl, subst}
+use mathlib.Core.Path.{_≡_, refl, sym, ap, subst}
+use mathlib.Core.Bool.{Bool}
 use Prim.Native.Nat.{ℕ, _+_, _-_, _≤_}
 use native.Mathlib.Omega.{arith}
-use Rattle.model.specs.Decode.{effectAt, limitOf, rowAt}
+use Rattle.exact.specs.Choice.{if_then_else_}
+use Rattle.model.specs.Decode.{effectAt, rowAt}
+use Rattle.model.specs.Job.{service, ultimate}
 use Rattle.rows.specs.Governed.{trafficOf, FoundRight}
-use Rattle.rows.proofs.Choosing.{tables-to, found-none}
+use Rattle.rows.proofs.Choosing.{tables-to, found-none, found-next}
+use borrow.Author.Needs.{needs}
 use Rattle.rows.proofs.state.governing.Statement.{statement}
 use Rattle.rows.proofs.state.governing.Tie as tie
 
 abbrev Inv-loop : tie.InvT-loop
-Inv-loop q effects rows records n count live limit found₀ i₀ found i =
-    FoundRight q (effectAt effects) (rowAt rows records count) (trafficOf live) (limitOf limit) i found × (i ≤ n)
+Inv-loop effects rows records n count live found₀ i₀ found i = (i ≤ n) × FoundRight (effectAt effects) (rowAt rows records count) (trafficOf live) i found
 
 abbrev μ-loop : tie.MeasureT-loop
-μ-loop q effects rows records n count live limit found₀ i₀ found i = n - i
+μ-loop effects rows records n count live found₀ i₀ found i = n - i
 
 loop-holds : tie.Need-loop-holds Inv-loop μ-loop
-loop-holds c =
-    let a = c .before .before .before .args in
-    (found-none (a .q) (effectAt (a .effects .now)) (rowAt (a .rows .now) (a .records .now) (a .count)) (trafficOf (a .live)) (limitOf (a .limit)) _ refl, omega arith)
+loop-holds c = let a = c .before .before .before .args in (omega arith, found-none (effectAt (a .effects .now)) (rowAt (a .rows .now) (a .records .now) (a .count)) (trafficOf (a .live)) _ refl)
 
-add-step : tie.Need-add-step Inv-loop μ-loop
-add-step c = omega arith
+add-row : tie.Need-add-row Inv-loop μ-loop
+add-row c = omega arith
 
-step-requires : tie.Need-step-requires Inv-loop μ-loop
-step-requires c κs =
-    let s = c .before .before .before .before .before in
-    let a = s .args in
-    let l = c .before .loop in
-    let less : (l .i + 1) - 1 ≡ l .i = omega arith in
-    ((tables-to (l .i + 1) (s .pre .0) (omega arith), omega arith, s .pre .1, s .pre .2, s .pre .3), rw less (l .inv .0))
+-- at a row
+module _ (c : tie.In-loop Inv-loop μ-loop) where
+  abbrev s : tie.Start Inv-loop μ-loop
+  s = c .before .before .before .before .before
+
+  abbrev i : ℕ
+  i = c .before .loop .i
+
+row-requires : tie.Need-row-requires Inv-loop μ-loop
+row-requires c κs = (tables-to (i c + 1) (s c .pre .0) (omega arith), omega arith, s c .pre .1)
+
+add-of-service : tie.Need-add-of-service Inv-loop μ-loop
+add-of-service c = omega arith
+
+of-service-requires : tie.Need-of-service-requires Inv-loop μ-loop
+of-service-requires c κs = (omega arith, tables-to (i (c .before) + 1) (s (c .before) .pre .0) (omega arith) .long)
+
+with-row-requires : tie.Need-with-row-requires Inv-loop μ-loop
+with-row-requires c κs = search needs
 
 add-i : tie.Need-add-i Inv-loop μ-loop
 add-i c = omega arith
@@ -37,16 +50,22 @@ loop-less : tie.Need-loop-less Inv-loop μ-loop
 loop-less c = omega arith
 
 loop-again : tie.Need-loop-again Inv-loop μ-loop
-loop-again c = (c .step .ensures, omega arith)
+loop-again c =
+    let at = c .before .before .before in
+    let a = s at .args in
+    let l = at .before .loop in (
+      omega arith,
+      rw (c .with-row .ensures)
+          (found-next (effectAt (a .effects .now)) (rowAt (a .rows .now) (a .records .now) (a .count)) (trafficOf (a .live)) (l .i) (c .before .of-service .result) (l .found) (c .before .before .row .result)
+          (sym (ap (λ (b : Bool). if b then service else ultimate) (c .before .of-service .ensures))) (c .before .before .row .ensures) (l .inv .1)),
+    )
 
 returns : tie.Need-returns Inv-loop μ-loop
 returns c =
     let l = c .before .loop in
     let a = c .before .before .before .before .before .args in
     let e : l .i ≡ a .n = omega arith in
-    subst (λ (k : ℕ). FoundRight (a .q) (effectAt (a .effects .now)) (rowAt (a .rows .now) (a .records .now) (a .count)) (trafficOf (a .live)) (limitOf (a .limit)) k (l .found)) e (l .inv .0)
+    subst (λ (k : ℕ). FoundRight (effectAt (a .effects .now)) (rowAt (a .rows .now) (a .records .now) (a .count)) (trafficOf (a .live)) k (l .found)) e (l .inv .1)
 
 pub governing-spec : {M : Type 1} → statement M
-governing-spec =
-    tie.close
-    (tie.spec Inv-loop μ-loop loop-holds add-step step-requires add-i loop-less loop-again returns)
+governing-spec = tie.close (tie.spec Inv-loop μ-loop loop-holds add-row row-requires add-of-service of-service-requires with-row-requires add-i loop-less loop-again returns)

@@ -1,18 +1,20 @@
-use mathlib.Core.Path.{refl, sym, _∙_, ap, subst}
-use Prim.Native.Nat.{ℕ, _+_, _-_, _*_}
+use mathlib.Core.Path.{refl, subst}
+use Prim.Native.Nat.{ℕ}
 use native.Mathlib.Nat.{le-refl}
-use native.Mathlib.Omega.{arith}
-use lib.Dec.{lit<}
-use lib.IntN.{pos}
+use lib.IntN.{ℤ, pos, _*ℤ_}
 use mir.Syntax.{w64}
 use mir.Val.{ofZ}
-use Rattle.exact.specs.Questions.{beats}
-use Rattle.exact.proofs.Held.{Held, known, got, nat, retold, plus, plus!, times, times! }
-use Rattle.model.specs.Words.{countAt}
-use Rattle.model.specs.Decode.{effectAt, liveOf, termsFrom, rowAt}
-use Rattle.rows.specs.Chained.{ChainRight}
+use Rattle.exact.specs.declared.Question.{Question}
+use Rattle.exact.specs.declared.Question.the-variants.{Greatest, Least}
+use Rattle.exact.proofs.Extremes.{by-question}
+use Rattle.exact.proofs.Held.{Held, got, told}
+use Rattle.model.specs.Magnitudes.{shareMost}
+use Rattle.model.specs.Decode.{effectAt, rowAt, termsFrom}
+use Rattle.model.specs.Job.{Effect, Row}
+use Rattle.rows.specs.Tables.{RowInTables}
+use Rattle.rows.specs.Chained.{chainFor, ChainRight}
 use Rattle.rows.specs.Governed.{trafficOf}
-use Rattle.rows.proofs.Loaded.{row-unladen, row-laden}
+use Rattle.rows.proofs.Loaded.{laden-is}
 use borrow.Author.Needs.{needs}
 use Rattle.rows.proofs.state.row.Statement.{statement}
 use Rattle.rows.proofs.state.row.Tie as tie
@@ -20,122 +22,66 @@ use Rattle.rows.proofs.state.row.Tie as tie
 first-record-requires : tie.Need-first-record-requires
 first-record-requires c κs = search needs
 
+-- where the row's first record has been read
+module _ (c : tie.After-first-record) where
+  abbrev s : tie.Start
+  s = c .before .before .before .before
+
+  fits : RowInTables (s .args .records .now) (s .args .count) (s .args .rows .now) (s .args .r)
+  fits = s .pre .0 .rows (s .args .r) (s .pre .1) (le-refl (s .args .r))
+
 best-requires : tie.Need-best-requires
-best-requires c κs =
-    let s = c .before .before .before .before in
-    let f = s .pre .0 .rows (s .args .r) (s .pre .1) (le-refl (s .args .r)) in
-    (s .pre .0 .effects, s .pre .0 .records, rw (c .first-record .ensures) (f .first), s .pre .0 .most, rw (c .first-record .ensures) (f .distinct))
+best-requires c κs = (s c .pre .0 .effects, s c .pre .0 .records, rw (c .first-record .ensures) (fits c .first), rw (c .first-record .ensures) (fits c .distinct))
 
-omitted-requires : tie.Need-omitted-requires
-omitted-requires c κs = search needs
+-- where its chain has been walked
+module _ (c : tie.After-best) where
+  abbrev at : tie.Start
+  at = s (c .before)
 
-sub-count : tie.Need-sub-count
-sub-count c = search needs
+  abbrev effect : ℕ → Effect
+  effect = effectAt (at .args .effects .now)
 
-mul-count : tie.Need-mul-count
-mul-count c = search needs
+  abbrev row : ℕ → Row
+  row = rowAt (at .args .rows .now) (at .args .records .now) (at .args .count)
 
-add-count : tie.Need-add-count
-add-count c = search needs
+  chained : (q : Question) → ChainRight q effect (row (at .args .r) .chain 0) (chainFor q (c .best .result))
+  chained q =
+      subst (λ (k : ℕ). ChainRight q effect (termsFrom (at .args .records .now) (at .args .count) k) (chainFor q (c .best .result)))
+      (c .before .first-record .ensures) (c .best .ensures q)
 
-count-requires : tie.Need-count-requires
-count-requires c κs = search needs
+loaded-requires : tie.Need-loaded-requires
+loaded-requires c κs = let f = fits (c .before) in (at c .pre .1, at c .pre .0 .long, f .live, f .factor, at c .pre .2 Greatest)
 
-sub-count-2 : tie.Need-sub-count-2
-sub-count-2 c = search needs
+loaded-requires-2 : tie.Need-loaded-requires-2
+loaded-requires-2 c κs = let b = c .before in let f = fits (b .before) in (at b .pre .1, at b .pre .0 .long, f .live, f .factor, at b .pre .2 Least)
 
-mul-count-2 : tie.Need-mul-count-2
-mul-count-2 c = search needs
+-- where its traffic has been made for both questions
+module _ (c : tie.After-loaded2) where
+  abbrev b : tie.After-best
+  b = c .before .before
 
-add-count-2 : tie.Need-add-count-2
-add-count-2 c = search needs
+  -- a question's traffic
+  abbrev traffic : Question → ℤ
+  traffic q = pos (row b (at b .args .r) .factor) *ℤ trafficOf (at b .args .live) q (row b (at b .args .r) .live)
 
-count-requires-2 : tie.Need-count-requires-2
-count-requires-2 c κs = search needs
+  most : Held w64 (ofZ w64 (c .before .loaded .result)) shareMost (traffic Greatest)
+  most = got w64 (c .before .loaded .ok) (c .before .loaded .ensures)
 
-cast-loaded : tie.Need-cast-loaded
-cast-loaded c = search needs
+  least : Held w64 (ofZ w64 (c .loaded2 .result)) shareMost (traffic Least)
+  least = got w64 (c .loaded2 .ok) (c .loaded2 .ensures)
 
-traffic-requires : tie.Need-traffic-requires
-traffic-requires c κs =
-    let s = c .before .before .before .before .before .before .before .before .before in
-    (rw (c .before .count .ensures .0) (s .pre .0 .rows (s .args .r) (s .pre .1) (le-refl (s .args .r)) .live), s .pre .2)
+laden-requires : tie.Need-laden-requires
+laden-requires c κs = (chained (b c) Greatest .near, told (most c) .1)
 
--- the factor, and the row's traffic
-factor : (c : tie.After-count2) → Held w64 (c .count2 .result) 3000 (pos (countAt (c .before .before .before .before .before .before .before .before .before .args .rows .now) (4 * (c .before .before .before .before .before .before .before .before .before .args .r - 1) + 2)))
-factor c =
-    let s = c .before .before .before .before .before .before .before .before .before in
-    let l = s .pre .0 .rows (s .args .r) (s .pre .1) (le-refl (s .args .r)) .factor in
-    subst (λ (k : ℕ). Held w64 (c .count2 .result) 3000 (pos k)) (c .count2 .ensures .0) (nat w64 3000 (rw (c .count2 .ensures .0) l) (omega arith))
-
-value : (c : tie.After-traffic) → Held w64 (ofZ w64 (c .traffic .result)) 1000000000000 (trafficOf (c .before .before .before .before .before .before .before .before .before .before .args .live) (liveOf (countAt (c .before .before .before .before .before .before .before .before .before .before .args .rows .now) (4 * (c .before .before .before .before .before .before .before .before .before .before .args .r - 1) + 1))))
-value c =
-    let a = c .before .before .before .before .before .before .before .before .before .before .args in
-    retold (got w64 (c .traffic .ok) (c .traffic .ensures)) (ap (λ (k : ℕ). trafficOf (a .live) (liveOf k)) (c .before .before .count .ensures .0))
-
--- the chain's value
-chained : (c : tie.After-best) → ChainRight (c .before .before .before .before .before .args .q) (effectAt (c .before .before .before .before .before .args .effects .now)) (rowAt (c .before .before .before .before .before .args .rows .now) (c .before .before .before .before .before .args .records .now) (c .before .before .before .before .before .args .count) (c .before .before .before .before .before .args .r) .chain) (c .before .before .before .before .before .args .count) (c .best .result)
-chained c =
-    let a = c .before .before .before .before .before .args in
-    subst (λ (k : ℕ). ChainRight (a .q) (effectAt (a .effects .now)) (termsFrom (a .records .now) (a .count) k) (a .count) (c .best .result)) (c .before .first-record .ensures) (c .best .ensures)
-
-mul-loaded : tie.Need-mul-loaded
-mul-loaded c = times! (factor (c .before)) (value c) (lit< tt)
-
-beats-requires : tie.Need-beats-requires
-beats-requires c κs = search needs
+laden-requires-2 : tie.Need-laden-requires-2
+laden-requires-2 c κs = (chained (b (c .before)) Least .near, told (least (c .before)) .1)
 
 returns : tie.Need-returns
 returns c =
-    let s = c .before .before .before .before .before .before .before .before .before .before .before .before .before in
-    let a = s .args in
-    let x = c .before .before .before .before .before .before .before .before in
-    let right = chained x in
-    let load = times (factor (c .before .before .before .before)) (value (c .before .before .before)) (lit< tt) in (
-      refl,
-      rw (known w64 (right .bound) (omega (arith, s .pre .0 .most)) .is)
-          (row-unladen (a .q) (effectAt (a .effects .now)) (rowAt (a .rows .now) (a .records .now) (a .count)) (a .live) (a .r) (a .count) (x .best .result) (c .before .before .before .before .before .before .omitted .result) right (c .before .before .before .before .before .before .omitted .ensures)
-          (ap (beats (a .q) (pos 0)) (sym (load .is)) ∙ sym (c .before .before .beats .ensures) ∙ c .before .if1 .taken)),
-    )
-
-add-t18 : tie.Need-add-t18
-add-t18 c =
-    let s = c .before .before .before .before .before .before .before .before .before .before .before .before .before .before in
-    let load = times (factor (c .before .before .before .before .before)) (value (c .before .before .before .before)) (lit< tt) in
-    plus! (known w64 (chained (c .before .before .before .before .before .before .before .before .before) .bound) (omega (arith, s .pre .0 .most))) load (omega (arith, s .pre .0 .most))
-
-returns-2 : tie.Need-returns-2
-returns-2 c =
-    let s = c .before .before .before .before .before .before .before .before .before .before .before .before .before .before in
-    let a = s .args in
-    let x = c .before .before .before .before .before .before .before .before .before in
-    let right = chained x in
-    let load = times (factor (c .before .before .before .before .before)) (value (c .before .before .before .before)) (lit< tt) in (
-      refl,
-      rw (plus (known w64 (right .bound) (omega (arith, s .pre .0 .most))) load (omega (arith, s .pre .0 .most)) .is)
-          (row-laden (a .q) (effectAt (a .effects .now)) (rowAt (a .rows .now) (a .records .now) (a .count)) (a .live) (a .r) (a .count) (x .best .result) (c .before .before .before .before .before .before .before .omitted .result) right (c .before .before .before .before .before .before .before .omitted .ensures)
-          (ap (beats (a .q) (pos 0)) (sym (load .is)) ∙ sym (c .before .before .before .beats .ensures) ∙ c .before .before .if1 .left)),
-    )
+    let d = c .before .before in
+    by-question _
+    (laden-is Greatest (effect (b d)) (row (b d)) (at (b d) .args .live .greatest) (at (b d) .args .r) _ refl (chained (b d) Greatest) (c .before .laden .ensures) (most d .is))
+    (laden-is Least (effect (b d)) (row (b d)) (at (b d) .args .live .least) (at (b d) .args .r) _ refl (chained (b d) Least) (c .laden2 .ensures) (least d .is))
 
 pub row-spec : {M : Type 1} → statement M
-row-spec =
-    tie.close
-    (tie.spec
-    first-record-requires
-    best-requires
-    omitted-requires
-    sub-count
-    mul-count
-    add-count
-    count-requires
-    sub-count-2
-    mul-count-2
-    add-count-2
-    count-requires-2
-    cast-loaded
-    traffic-requires
-    mul-loaded
-    beats-requires
-    returns
-    add-t18
-    returns-2)
+row-spec = tie.close (tie.spec first-record-requires best-requires loaded-requires loaded-requires-2 laden-requires laden-requires-2 returns)

@@ -4,6 +4,7 @@ use lib.Dec.{lit<}
 use mir.Syntax.{w64}
 use Rattle.exact.proofs.Bounds.{within-pos}
 use Rattle.exact.proofs.Held.{known, retold, told}
+use Rattle.model.specs.Magnitudes.{trafficMost}
 use Rattle.rows.proofs.Loaded.{kind-normal, kind-overload, kind-none}
 use Rattle.rows.proofs.state.traffic.Statement.{statement}
 use Rattle.rows.proofs.state.traffic.Tie as tie
@@ -21,7 +22,7 @@ returns-2 c =
 returns-3 : tie.Need-returns-3
 returns-3 c =
     let s = c .before .before in
-    (sym (kind-none (s .args .live) (s .args .kind) (s .pre .0) (c .before .if1 .left) (c .if2 .left)), within-pos 1000000000000 (omega arith))
+    (sym (kind-none (s .args .live) (s .args .kind) (s .pre .0) (c .before .if1 .left) (c .if2 .left)), within-pos trafficMost (omega arith))
 
 pub traffic-spec : {M : Type 1} → statement M
 traffic-spec = tie.close (tie.spec returns returns-2 returns-3)

@@ -1,0 +1,30 @@
+use Rattle.rows.specs.Governed.{trafficOf, stateFor}
+use Rattle.kernel.proofs.Fits.{sized, tables-found, state-found}
+use Rattle.kernel.proofs.limit_states.Statement.{statement}
+use Rattle.kernel.proofs.limit_states.Tie as tie
+
+section-requires : tie.Need-section-requires
+section-requires c κs = sized (c .before .pre .0)
+
+section-requires-2 : tie.Need-section-requires-2
+section-requires-2 c κs = sized (c .before .before .pre .0)
+
+section-requires-3 : tie.Need-section-requires-3
+section-requires-3 c κs = sized (c .before .before .before .pre .0)
+
+-- where the sections have been found
+module _ (c : tie.After-section3) where
+  abbrev s : tie.Start
+  s = c .before .before .before .before
+
+states-requires : tie.Need-states-requires
+states-requires c κs = (tables-found (s c .pre .0) (c .before .before .section .ensures) (c .before .section2 .ensures) (c .section3 .ensures), s c .pre .1)
+
+returns : tie.Need-returns
+returns c limit =
+    let b = c .before in
+    state-found (s b .pre .0) (b .before .before .section .ensures) (b .before .section2 .ensures) (b .section3 .ensures) (trafficOf (s b .args .live)) limit (stateFor limit (c .states .result)) (c .states .ensures limit)
+
+pub limit-states-spec : {M : Type 1} → statement M
+limit-states-spec =
+    tie.close (tie.spec section-requires section-requires-2 section-requires-3 states-requires returns)

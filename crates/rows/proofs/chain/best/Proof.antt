@@ -1,0 +1,97 @@
+use mathlib.Core.Path.{_≡_}
+use mathlib.Core.List.{[]}
+use Prim.Native.Nat.{_-_, _*_, _≤_}
+use native.Mathlib.Nat.{pos-of-ne-zero}
+use native.Mathlib.Omega.{arith}
+use lib.ListN.{length}
+use Rattle.exact.specs.declared.Question.{Question}
+use Rattle.exact.specs.declared.Question.the-variants.{Greatest, Least}
+use Rattle.exact.proofs.Extremes.{by-question}
+use Rattle.model.specs.Decode.{effectAt, termsFrom}
+use Rattle.model.specs.Rows.{NamesTo}
+use Rattle.rows.specs.Chained.{chainFor, ChainRight}
+use Rattle.rows.proofs.Terms.{terms-none, terms-spent}
+use Rattle.rows.proofs.Omissions.{terms-named, Sofar, sofar-start, sofar-next, sofar-near, sofar-all}
+use Rattle.rows.proofs.chain.best.Statement.{statement}
+use Rattle.rows.proofs.chain.best.Tie as tie
+
+abbrev Inv-loop : tie.InvT-loop
+Inv-loop effects records first count greatest₀ least₀ c₀ counter₀ greatest least c counter =
+    (counter ≤ count) × (12 * c ≤ length records)
+    × Sofar Greatest (effectAt effects) (termsFrom records count first) (termsFrom records (count - counter) c) counter greatest
+    × Sofar Least (effectAt effects) (termsFrom records count first) (termsFrom records (count - counter) c) counter least
+
+abbrev μ-loop : tie.MeasureT-loop
+μ-loop effects records first count greatest₀ least₀ c₀ counter₀ greatest least c counter = count - counter
+
+loop-holds : tie.Need-loop-holds Inv-loop μ-loop
+loop-holds c =
+    let s = c .before .before in
+    let a = s .args in
+    (omega arith, s .pre .2, sofar-start Greatest (effectAt (a .effects .now)) (a .records .now) (a .count) (a .first), sofar-start Least (effectAt (a .effects .now)) (a .records .now) (a .count) (a .first))
+
+-- at the loop
+module _ (c : tie.At-loop Inv-loop μ-loop) where
+  abbrev s : tie.Start Inv-loop μ-loop
+  s = c .before .before .before
+
+  named : NamesTo 16 (termsFrom (s .args .records .now) (s .args .count) (s .args .first))
+  named = terms-named (s .args .effects .now) (s .args .records .now) (s .pre .1) (s .args .count) (s .args .first) (s .pre .2)
+
+  -- nothing is left
+  ended : termsFrom (s .args .records .now) (s .args .count - c .loop .counter) (c .loop .c) ≡ [] → (q : Question) →
+      ChainRight q (effectAt (s .args .effects .now)) (termsFrom (s .args .records .now) (s .args .count) (s .args .first)) (chainFor q (record { greatest = c .loop .greatest; least = c .loop .least }))
+  ended none = by-question _ (sofar-all Greatest (effectAt (s .args .effects .now)) (c .loop .inv .2) (s .pre .3) named none) (sofar-all Least (effectAt (s .args .effects .now)) (c .loop .inv .3) (s .pre .3) named none)
+
+returns : tie.Need-returns Inv-loop μ-loop
+returns c = let l = c .before .before in ended l (terms-none (s l .args .records .now) (s l .args .count - l .loop .counter) (l .loop .c) (c .if1 .taken))
+
+share-of-requires : tie.Need-share-of-requires Inv-loop μ-loop
+share-of-requires c κs = let l = c .before .before in (s l .pre .0, s l .pre .1, pos-of-ne-zero (c .if1 .left), l .loop .inv .1)
+
+extended-requires : tie.Need-extended-requires Inv-loop μ-loop
+extended-requires c κs =
+    let l = c .before .before .before in
+    (c .share-of .ensures .near, sofar-near Greatest _ (l .loop .inv .2) (s l .pre .3) (named l))
+
+extended-requires-2 : tie.Need-extended-requires-2 Inv-loop μ-loop
+extended-requires-2 c κs =
+    let l = c .before .before .before .before in
+    (c .before .share-of .ensures .near, sofar-near Least _ (l .loop .inv .3) (s l .pre .3) (named l))
+
+-- past both
+module _ (c : tie.After-extended2 Inv-loop μ-loop) where
+  abbrev else : tie.Else1 Inv-loop μ-loop
+  else = c .before .before .before
+
+  abbrev at : tie.At-loop Inv-loop μ-loop
+  at = else .before .before
+
+next-requires : tie.Need-next-requires Inv-loop μ-loop
+next-requires c κs = (pos-of-ne-zero (else c .if1 .left), at c .loop .inv .1)
+
+add-counter : tie.Need-add-counter Inv-loop μ-loop
+add-counter c = omega arith
+
+loop-less : tie.Need-loop-less Inv-loop μ-loop
+loop-less c = omega arith
+
+loop-again : tie.Need-loop-again Inv-loop μ-loop
+loop-again c =
+    let d = c .before in
+    let l = at d .loop in
+    let a = s (at d) .args in
+    let here = else d .if1 .left in
+    let own = d .before .before .share-of .ensures in
+    let n = c .next .ensures .0 in (
+      omega arith,
+      rw n (s (at d) .pre .1 (l .c) (pos-of-ne-zero here) (l .inv .1) .next),
+      rw (d .before .extended .ensures) (sofar-next Greatest (effectAt (a .effects .now)) (a .records .now) _ (a .count) (l .counter) (l .c) (c .next .result) _ (l .greatest) here (omega arith) n own (l .inv .2)),
+      rw (d .extended2 .ensures) (sofar-next Least (effectAt (a .effects .now)) (a .records .now) _ (a .count) (l .counter) (l .c) (c .next .result) _ (l .least) here (omega arith) n own (l .inv .3)),
+    )
+
+returns-2 : tie.Need-returns-2 Inv-loop μ-loop
+returns-2 c = let l = c .before in ended l (terms-spent (s l .args .records .now) (s l .args .count - l .loop .counter) (l .loop .c) (omega arith))
+
+pub best-spec : {M : Type 1} → statement M
+best-spec = tie.close (tie.spec Inv-loop μ-loop loop-holds returns share-of-requires extended-requires extended-requires-2 next-requires add-counter loop-less loop-again returns-2)

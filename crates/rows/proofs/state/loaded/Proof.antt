@@ -1,0 +1,49 @@
+use mathlib.Core.Path.{refl, ap, subst}
+use Prim.Native.Nat.{ℕ, _+_, _-_, _*_}
+use native.Mathlib.Omega.{arith}
+use lib.Dec.{lit<}
+use lib.IntN.{pos}
+use mir.Syntax.{w64}
+use mir.Val.{ofZ}
+use Rattle.exact.proofs.Held.{Held, got, nat, retold, times, times! }
+use Rattle.model.specs.Magnitudes.{trafficMost}
+use Rattle.model.specs.Words.{countAt}
+use Rattle.model.specs.Decode.{liveOf}
+use Rattle.rows.specs.Governed.{liveValue}
+use borrow.Author.Needs.{needs}
+use Rattle.rows.proofs.state.loaded.Statement.{statement}
+use Rattle.rows.proofs.state.loaded.Tie as tie
+
+word-requires : tie.Need-word-requires
+word-requires c κs = search needs
+
+word-requires-2 : tie.Need-word-requires-2
+word-requires-2 c κs = search needs
+
+cast-result : tie.Need-cast-result
+cast-result c = search needs
+
+traffic-requires : tie.Need-traffic-requires
+traffic-requires c κs = search needs
+
+-- the factor and the traffic value
+module _ (c : tie.After-traffic) where
+  abbrev s : tie.Start
+  s = c .before .before .before .before
+
+  factor : Held w64 (c .before .word2 .result) 3000 (pos (countAt (s .args .rows .now) (4 * (s .args .r - 1) + 2)))
+  factor =
+      let f = c .before .word2 in
+      subst (λ (k : ℕ). Held w64 (f .result) 3000 (pos k)) (f .ensures .0) (nat w64 3000 (rw (f .ensures .0) (s .pre .3)) (omega arith))
+
+  value : Held w64 (ofZ w64 (c .traffic .result)) trafficMost (liveValue (s .args .live) (liveOf (countAt (s .args .rows .now) (4 * (s .args .r - 1) + 1))))
+  value = retold (got w64 (c .traffic .ok) (c .traffic .ensures)) (ap (λ (k : ℕ). liveValue (s .args .live) (liveOf k)) (c .before .before .word .ensures .0))
+
+mul-result : tie.Need-mul-result
+mul-result c = times! (factor c) (value c) (lit< tt)
+
+returns : tie.Need-returns
+returns c = let v = times (factor c) (value c) (lit< tt) in rw (v .is) (refl, v .near)
+
+pub loaded-spec : {M : Type 1} → statement M
+loaded-spec = tie.close (tie.spec word-requires word-requires-2 cast-result traffic-requires mul-result returns)

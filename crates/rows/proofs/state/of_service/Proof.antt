@@ -1,0 +1,20 @@
+use mathlib.Core.Path.{_≡_, _∙_, ap}
+use Prim.Native.Nat.{ℕ, _+_, _-_, _*_}
+use native.Mathlib.Omega.{arith}
+use lib.Dec.{eqb}
+use Rattle.model.specs.Words.{countAt}
+use borrow.Author.Needs.{needs}
+use Rattle.rows.proofs.state.of_service.Statement.{statement}
+use Rattle.rows.proofs.state.of_service.Tie as tie
+
+word-requires : tie.Need-word-requires
+word-requires c κs = search needs
+
+returns : tie.Need-returns
+returns c =
+    let a = c .before .before .args in
+    let same : 4 * (a .r - 1) + 0 ≡ 4 * (a .r - 1) = omega arith in
+    ap (λ (k : ℕ). eqb k 1) (c .word .ensures .0 ∙ ap (countAt (a .rows .now)) same)
+
+pub of-service-spec : {M : Type 1} → statement M
+of-service-spec = tie.close (tie.spec word-requires returns)

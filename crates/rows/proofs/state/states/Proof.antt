@@ -1,0 +1,32 @@
+use Rattle.model.specs.Decode.{effectAt, rowAt}
+use Rattle.model.specs.Job.{Limit, service, ultimate}
+use Rattle.rows.specs.Governed.{trafficOf, foundFor, StateFound, stateBy}
+use Rattle.rows.proofs.Choosing.{by-limit, state-found}
+use borrow.Author.Needs.{needs}
+use Rattle.rows.proofs.state.states.Statement.{statement}
+use Rattle.rows.proofs.state.states.Tie as tie
+
+governing-requires : tie.Need-governing-requires
+governing-requires c κs = search needs
+
+state-requires : tie.Need-state-requires
+state-requires c κs = search needs
+
+state-requires-2 : tie.Need-state-requires-2
+state-requires-2 c κs = search needs
+
+-- a limit state by what was found of it
+module _ (c : tie.After-governing) where
+  abbrev s : tie.Start
+  s = c .before .before .before .before
+
+  right : (limit : Limit) → StateFound (effectAt (s .args .effects .now)) (rowAt (s .args .rows .now) (s .args .records .now) (s .args .count)) (trafficOf (s .args .live)) limit (s .args .n) (stateBy (foundFor limit (c .governing .result)))
+  right limit = state-found _ _ (trafficOf (s .args .live)) limit (s .args .n) (foundFor limit (c .governing .result)) (c .governing .ensures limit)
+
+returns : tie.Need-returns
+returns c =
+    let d = c .before .before .before .before in
+    by-limit _ (rw (c .before .state .ensures) (right d service)) (rw (c .state2 .ensures) (right d ultimate))
+
+pub states-spec : {M : Type 1} → statement M
+states-spec = tie.close (tie.spec governing-requires state-requires state-requires-2 returns)
