@@ -1,5 +1,5 @@
 -- What the traffic values ask of an accepted job, and what they give it.
-use mathlib.Core.Path.{_≡_, refl, sym, _∙_, ap₂, subst}
+use mathlib.Core.Path.{_≡_, refl, sym, _∙_, ap, ap₂, subst}
 use mathlib.Core.List.{List}
 use Prim.Native.Nat.{ℕ, _+_, _*_, _≤_, _<_}
 use lib.Dec.{lit<}
@@ -15,7 +15,7 @@ use Rattle.exact.specs.declared.Question.{Question}
 use Rattle.model.specs.Job.{Job, normal, overload}
 use Rattle.model.specs.Decode.{decode, carriageway}
 use Rattle.model.specs.Dynamic.{dynamicFactor}
-use Rattle.model.specs.Lanes.{laneCount}
+use Rattle.model.specs.Lanes.{laneCount, lanes, unit}
 use Rattle.model.specs.Line.{Kind, HN, HO, axle, lineEffect}
 use Rattle.model.specs.Sections.{transverseSection}
 use Rattle.model.specs.declared.Sense.the-variants.{Raising, Lowering}
@@ -83,13 +83,13 @@ module _ {b : List ℕ} {head : Header} (ready : Ready b head) {across : List �
         near = λ i h. record { greatest = each i h .greatest .near; least = each i h .least .near };
       }
 
-  pub spanned : Spanned (decode b .deck) spans n (head .spacing)
-  unfolding decode
+  pub spanned : Spanned (decode b) spans n (head .spacing)
+  unfolding decode lanes unit
   spanned =
       let own : (P : Header → Type 0) → P head → P _ = λ P. subst P (ready .own) in
       record {
         lanes = own (λ h. n ≡ laneCount (h .width)) (count .0);
-        spacing = own (λ h. head .spacing ≡ h .spacing) refl;
+        unit = own (λ h. n * head .spacing ≡ laneCount (h .width) * h .spacing) (ap (λ (m : ℕ). m * head .spacing) (count .0));
         each = λ i h.
             own (λ h. SpanRight (carriageway (transverseSection b) (h .width) (h .spacing)) i (getD spans i noSpan))
             (subst (λ (l : List ℕ). SpanRight (carriageway l (head .width) (head .spacing)) i (getD spans i noSpan)) found (each i h));
@@ -101,12 +101,12 @@ module _ {b : List ℕ} {head : Header} (ready : Ready b head) {across : List �
   factor-is q = factor ∙ subst (λ (h : Header). dynamicFactor (head .kind) (head .value) ≡ dynamicFactor (h .kind) (h .value)) (ready .own) refl
 
 -- a normal value over the spans is the job's
-pub normal-found : (q : Question) (job : Job) (d : ℕ) (hn : Effects) (x : Extreme) → d ≡ job .dynamic q → hn ≡ effectsOf job HN → NormalPlaced q (job .deck) d hn x → TrafficPlaced q job normal x
-normal-found q job d hn x e f p = normal-placed q job x (subst (λ (d : ℕ). NormalPlaced q (job .deck) d (effectsOf job HN) x) e (subst (λ (h : Effects). NormalPlaced q (job .deck) d h x) f p))
+pub normal-found : (q : Question) (job : Job) (d : ℕ) (hn : Effects) (x : Extreme) → d ≡ job .dynamic q → hn ≡ effectsOf job HN → NormalPlaced q job d hn x → TrafficPlaced q job normal x
+normal-found q job d hn x e f p = normal-placed q job x (subst (λ (d : ℕ). NormalPlaced q job d (effectsOf job HN) x) e (subst (λ (h : Effects). NormalPlaced q job d h x) f p))
 
 -- and so is an overload value
-pub overload-found : (q : Question) (job : Job) (d : ℕ) (hn ho : Effects) (x : Extreme) → d ≡ job .dynamic q → hn ≡ effectsOf job HN → ho ≡ effectsOf job HO → OverloadPlaced q (job .deck) d hn ho x → TrafficPlaced q job overload x
+pub overload-found : (q : Question) (job : Job) (d : ℕ) (hn ho : Effects) (x : Extreme) → d ≡ job .dynamic q → hn ≡ effectsOf job HN → ho ≡ effectsOf job HO → OverloadPlaced q job d hn ho x → TrafficPlaced q job overload x
 overload-found q job d hn ho x e f g p =
     overload-placed q job x
-    (subst (λ (d : ℕ). OverloadPlaced q (job .deck) d (effectsOf job HN) (effectsOf job HO) x) e
-    (subst (λ (h : Effects). OverloadPlaced q (job .deck) d h (effectsOf job HO) x) f (subst (λ (o : Effects). OverloadPlaced q (job .deck) d hn o x) g p)))
+    (subst (λ (d : ℕ). OverloadPlaced q job d (effectsOf job HN) (effectsOf job HO) x) e
+    (subst (λ (h : Effects). OverloadPlaced q job d h (effectsOf job HO) x) f (subst (λ (o : Effects). OverloadPlaced q job d hn o x) g p)))

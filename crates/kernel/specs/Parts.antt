@@ -9,7 +9,8 @@ use Rattle.exact.specs.declared.Question.the-variants.{Greatest, Least}
 use Rattle.model.specs.Job.{Job, Limit, service, ultimate, Live, normal, overload}
 use Rattle.model.specs.Line.{Kind, HO, lineEffect}
 use Rattle.model.specs.Refusals.{verdict}
-use Rattle.model.specs.Traffic.{lanes, bestSum, trafficValue}
+use Rattle.model.specs.Lanes.{lanes}
+use Rattle.model.specs.Traffic.{bestSum, trafficValue}
 use Rattle.model.specs.Arrangements.{OverloadLanes}
 use Rattle.model.specs.Answered.{laneAt, setOf, extremeOf, PositionRight}
 use Rattle.model.specs.Placements.{EntryRight, placedLanes, placedSum}

@@ -13,9 +13,9 @@ use borrow.Author.Tests.{ne-eqb}
 use Rattle.exact.specs.Choice.{if_then_else_}
 use Rattle.exact.specs.declared.Question.{Question}
 use Rattle.exact.proofs.Bridge.{by-test}
-use Rattle.model.specs.Job.{Carriageway}
+use Rattle.model.specs.Job.{Job}
 use Rattle.model.specs.Line.{HN, HO}
-use Rattle.model.specs.Lanes.{lanesOf, bit}
+use Rattle.model.specs.Lanes.{bit, lanes}
 use Rattle.model.specs.Answered.{entryBit, setOf}
 use Rattle.model.specs.Placements.{entryIs}
 use Rattle.model.specs.declared.Lane.{Lane}
@@ -80,25 +80,25 @@ module _ (set o n : ℕ) (hn over : List Chosen) (lanes : List Lane) (small : se
       ∙ ap (λ (m : ℕ). m + 2 ^ o) (set-number 5 set below))
 
 -- each lane's entry and the set's number
-pub placed-right : (q : Question) (deck : Carriageway) (eHn eHo : Effects) (set o number : ℕ) (hn over : List Chosen) (lanes : List Lane) → set < 2 ^ lanesOf deck → LanesPlaced set o (lanesOf deck) hn over lanes →
+pub placed-right : (q : Question) (job : Job) (eHn eHo : Effects) (set o number : ℕ) (hn over : List Chosen) (all : List Lane) → set < 2 ^ lanes job → LanesPlaced set o (lanes job) hn over all →
     ((i : ℕ) → eqb i o ≡ true → bit set i ≡ false) →
-    ((i : ℕ) → i < lanesOf deck → BestElement q deck eHn i (getD hn i noElement .sense) (getD hn i noElement .centre)) →
-    ((i : ℕ) → i < lanesOf deck → eqb i o ≡ true → BestElement q deck eHo i (getD over i noElement .sense) (getD over i noElement .centre)) →
-    number ≡ setOf lanes → PlacedRight q deck eHn eHo set (λ i. eqb i o) (record { set = number; lanes = lanes })
-placed-right q deck eHn eHo set o number hn over lanes small placed apart best-hn best-ho is = record {
+    ((i : ℕ) → i < lanes job → BestElement q job eHn i (getD hn i noElement .sense) (getD hn i noElement .centre)) →
+    ((i : ℕ) → i < lanes job → eqb i o ≡ true → BestElement q job eHo i (getD over i noElement .sense) (getD over i noElement .centre)) →
+    number ≡ setOf all → PlacedRight q job eHn eHo set (λ i. eqb i o) (record { set = number; lanes = all })
+placed-right q job eHn eHo set o number hn over all small placed apart best-hn best-ho is = record {
   small = small;
   underHn = λ i h. ap (λ (x : Lane). entryIs HN (x .entry)) (placed .each i h) ∙ hn-by (getD hn i noElement) (getD over i noElement) (eqb i o) (bit set i) (apart i);
   underHo = λ i h. ap (λ (x : Lane). entryIs HO (x .entry)) (placed .each i h) ∙ ho-by (getD hn i noElement) (getD over i noElement) (eqb i o) (bit set i);
-  entries = λ i. elim (decLe (lanesOf deck) i) [
-    | yes l ↦ subst (λ (x : Lane). EntryBest q deck eHn eHo i (x .entry) (x .centre)) (sym (placed .past i l)) refl
-    | no l ↦ subst (λ (x : Lane). EntryBest q deck eHn eHo i (x .entry) (x .centre)) (sym (placed .each i (omega arith))) (entry-by i (getD hn i noElement) (getD over i noElement) (eqb i o) (bit set i) (best-hn i (omega arith)) (best-ho i (omega arith)))
+  entries = λ i. elim (decLe (lanes job) i) [
+    | yes l ↦ subst (λ (x : Lane). EntryBest q job eHn eHo i (x .entry) (x .centre)) (sym (placed .past i l)) refl
+    | no l ↦ subst (λ (x : Lane). EntryBest q job eHn eHo i (x .entry) (x .centre)) (sym (placed .each i (omega arith))) (entry-by i (getD hn i noElement) (getD over i noElement) (eqb i o) (bit set i) (best-hn i (omega arith)) (best-ho i (omega arith)))
   ];
   reported = is;
   past = placed .past;
 }
   where
-    entry-by : (i : ℕ) (hn over : Chosen) (a b : Bool) → BestElement q deck eHn i (hn .sense) (hn .centre) → (a ≡ true → BestElement q deck eHo i (over .sense) (over .centre)) →
-        EntryBest q deck eHn eHo i (laneBy hn over a b .entry) (laneBy hn over a b .centre)
+    entry-by : (i : ℕ) (hn over : Chosen) (a b : Bool) → BestElement q job eHn i (hn .sense) (hn .centre) → (a ≡ true → BestElement q job eHo i (over .sense) (over .centre)) →
+        EntryBest q job eHn eHo i (laneBy hn over a b .entry) (laneBy hn over a b .centre)
     entry-by i hn over true b h k = k refl
     entry-by i hn over false true h k = h
     entry-by i hn over false false h k = refl

@@ -8,7 +8,7 @@ use lib.ListN.{getD}
 use Rattle.exact.specs.Bounds.{Within}
 use Rattle.exact.specs.Questions.{extreme}
 use Rattle.exact.specs.declared.Question.{Question}
-use Rattle.model.specs.Lanes.{bit, without}
+use Rattle.model.specs.Lanes.{bit, without, reduction}
 use Rattle.model.specs.Traffic.{setSum}
 use Rattle.lanes.specs.Entries.{noElement}
 use Rattle.lanes.specs.declared.entries.Chosen.{Chosen}
@@ -28,7 +28,7 @@ SumsNear sums = (s : ℕ) → Within 1290000000000000 (sumAt sums s)
 
 -- the sum of every set of n lanes with these values, and 0 past them
 pub record SumsRight (n : ℕ) (hn : ℕ → ℤ) (sums : List ℤ) : Type 0 where
-  pub each : (s : ℕ) → s < 2 ^ n → sumAt sums s ≡ setSum n hn s
+  pub each : (s : ℕ) → s < 2 ^ n → sumAt sums s ≡ setSum reduction n hn s
   pub past : (s : ℕ) → 2 ^ n ≤ s → sumAt sums s ≡ pos 0
   pub near : SumsNear sums
 

@@ -1,8 +1,8 @@
--- What a traffic value and its placement are, over a carriageway and the line effects of the kinds.
+-- What a traffic value and its placement are, over a job and the line effects of the kinds.
 use mathlib.Core.Path.{_≡_}
 use mathlib.Core.Bool.{Bool, false}
 use mathlib.Core.List.{List}
-use Prim.Native.Nat.{ℕ, _^_, _≤_, _<_}
+use Prim.Native.Nat.{ℕ, _*_, _^_, _≤_, _<_}
 use lib.IntN.{ℤ, pos, _+ℤ_, _*ℤ_}
 use lib.Signed.{_≤ℤ_}
 use lib.ListN.{length, getD}
@@ -10,9 +10,9 @@ use lib.Dec.{eqb}
 use Rattle.exact.specs.Bounds.{Within}
 use Rattle.exact.specs.Choice.{if_then_else_}
 use Rattle.exact.specs.declared.Question.{Question}
-use Rattle.model.specs.Job.{Carriageway}
+use Rattle.model.specs.Job.{Job}
 use Rattle.model.specs.Line.{HN, HO}
-use Rattle.model.specs.Lanes.{lanesOf, lowest, highest, transverseUnit, transverseAt, bit}
+use Rattle.model.specs.Lanes.{bit, lanes, unit, sumUnit, deckOf, lowestIn, highestIn, ordinateIn, twentieths}
 use Rattle.model.specs.Traffic.{bestInLane, setSum, bestNormal, bestOverload, effectOf}
 use Rattle.model.specs.Answered.{emptyLane, laneAt, setOf}
 use Rattle.model.specs.Placements.{entryIs}
@@ -47,11 +47,11 @@ pub record EffectsFit (b : ℕ) (e : Effects) : Type 0 where
   pub raising : Within b (e .raising)
   pub lowering : Within b (e .lowering)
 
--- the spans are those of a carriageway's n lanes
-pub record Spanned (deck : Carriageway) (spans : List Span) (n g : ℕ) : Type 0 where
-  pub lanes : n ≡ lanesOf deck
-  pub spacing : g ≡ deck .g
-  pub each : (i : ℕ) → i < n → SpanRight deck i (getD spans i noSpan)
+-- the spans are those of a job's n lanes, and n g is the denominator of its sums
+pub record Spanned (job : Job) (spans : List Span) (n g : ℕ) : Type 0 where
+  pub lanes : n ≡ lanes job
+  pub unit : n * g ≡ sumUnit job (unit job)
+  pub each : (i : ℕ) → i < n → SpanRight (deckOf job i) i (getD spans i noSpan)
 
 -- ---- the lanes of a placement
 
@@ -74,41 +74,41 @@ pub record LanesPlaced (set ho n : ℕ) (hn over : List Chosen) (lanes : List La
 -- ---- what is given
 
 -- a lane's best under a kind's line effects
-abbrev pub laneBest : Question → Carriageway → Effects → ℕ → ℤ
-laneBest q deck e i = bestInLane q deck i (e .raising) (e .lowering)
+abbrev pub laneBest : Question → Job → Effects → ℕ → ℤ
+laneBest q job e i = bestInLane q job i (e .raising) (e .lowering)
 
 -- an element in lane i, at a centre within its limits, gives the lane's best
-pub record BestElement (q : Question) (deck : Carriageway) (e : Effects) (i : ℕ) (sense : Sense) (centre : ℕ) : Type 0 where
-  pub low : lowest deck i ≤ centre
-  pub high : centre ≤ highest deck i
-  pub best : transverseAt deck (lanesOf deck) centre *ℤ effectFor sense (e .raising) (e .lowering) ≡ laneBest q deck e i
+pub record BestElement (q : Question) (job : Job) (e : Effects) (i : ℕ) (sense : Sense) (centre : ℕ) : Type 0 where
+  pub low : lowestIn job i ≤ centre
+  pub high : centre ≤ highestIn job i
+  pub best : ordinateIn job i (unit job) centre *ℤ effectFor sense (e .raising) (e .lowering) ≡ laneBest q job e i
 
 -- a lane's entry gives the best of its kind; an unloaded lane's centre is 0
-abbrev pub EntryBest : Question → Carriageway → (hn ho : Effects) → ℕ → Entry → (centre : ℕ) → Type 0
-EntryBest q deck hn ho i Unloaded centre = centre ≡ 0
-EntryBest q deck hn ho i (Hn sense) centre = BestElement q deck hn i sense centre
-EntryBest q deck hn ho i (Ho sense) centre = BestElement q deck ho i sense centre
+abbrev pub EntryBest : Question → Job → (hn ho : Effects) → ℕ → Entry → (centre : ℕ) → Type 0
+EntryBest q job hn ho i Unloaded centre = centre ≡ 0
+EntryBest q job hn ho i (Hn sense) centre = BestElement q job hn i sense centre
+EntryBest q job hn ho i (Ho sense) centre = BestElement q job ho i sense centre
 
 -- a placement by the set of its HN lanes and the test of its HO lane
-pub record PlacedRight (q : Question) (deck : Carriageway) (hn ho : Effects) (set : ℕ) (over : ℕ → Bool) (p : Placement) : Type 0 where
-  pub small : set < 2 ^ lanesOf deck
-  pub underHn : (i : ℕ) → i < lanesOf deck → entryIs HN (laneAt p i .entry) ≡ bit set i
-  pub underHo : (i : ℕ) → i < lanesOf deck → entryIs HO (laneAt p i .entry) ≡ over i
-  pub entries : (i : ℕ) → EntryBest q deck hn ho i (laneAt p i .entry) (laneAt p i .centre)
+pub record PlacedRight (q : Question) (job : Job) (hn ho : Effects) (set : ℕ) (over : ℕ → Bool) (p : Placement) : Type 0 where
+  pub small : set < 2 ^ lanes job
+  pub underHn : (i : ℕ) → i < lanes job → entryIs HN (laneAt p i .entry) ≡ bit set i
+  pub underHo : (i : ℕ) → i < lanes job → entryIs HO (laneAt p i .entry) ≡ over i
+  pub entries : (i : ℕ) → EntryBest q job hn ho i (laneAt p i .entry) (laneAt p i .centre)
   pub reported : p .set ≡ setOf (p .lanes)
-  pub past : (i : ℕ) → lanesOf deck ≤ i → laneAt p i ≡ emptyLane
+  pub past : (i : ℕ) → lanes job ≤ i → laneAt p i ≡ emptyLane
 
 -- a normal value: the best set of lanes under HN
-pub record NormalPlaced (q : Question) (deck : Carriageway) (dynamic : ℕ) (hn : Effects) (x : Extreme) : Type 0 where
-  pub value : x .value ≡ effectOf q dynamic (bestNormal q (lanesOf deck) (laneBest q deck hn)) (transverseUnit deck (lanesOf deck))
-  pub placed : (ho : Effects) → PlacedRight q deck hn ho (x .placement .set) (λ i. false) (x .placement)
-  pub gives : setSum (lanesOf deck) (laneBest q deck hn) (x .placement .set) ≡ bestNormal q (lanesOf deck) (laneBest q deck hn)
+pub record NormalPlaced (q : Question) (job : Job) (dynamic : ℕ) (hn : Effects) (x : Extreme) : Type 0 where
+  pub value : x .value ≡ effectOf q dynamic (bestNormal q (twentieths job) (lanes job) (laneBest q job hn)) (sumUnit job (unit job))
+  pub placed : (ho : Effects) → PlacedRight q job hn ho (x .placement .set) (λ i. false) (x .placement)
+  pub gives : setSum (twentieths job) (lanes job) (laneBest q job hn) (x .placement .set) ≡ bestNormal q (twentieths job) (lanes job) (laneBest q job hn)
 
 -- an overload value: the best lane under HO and set of others under HN
-pub record OverloadPlaced (q : Question) (deck : Carriageway) (dynamic : ℕ) (hn ho : Effects) (x : Extreme) : Type 0 where
-  pub value : x .value ≡ effectOf q dynamic (bestOverload q (lanesOf deck) (laneBest q deck hn) (laneBest q deck ho)) (transverseUnit deck (lanesOf deck))
+pub record OverloadPlaced (q : Question) (job : Job) (dynamic : ℕ) (hn ho : Effects) (x : Extreme) : Type 0 where
+  pub value : x .value ≡ effectOf q dynamic (bestOverload q (twentieths job) (lanes job) (laneBest q job hn) (laneBest q job ho)) (sumUnit job (unit job))
   pub lane : ℕ
   pub set : ℕ
-  pub onDeck : lane < lanesOf deck
-  pub placed : PlacedRight q deck hn ho set (λ i. eqb i lane) (x .placement)
-  pub gives : pos 20 *ℤ laneBest q deck ho lane +ℤ setSum (lanesOf deck) (laneBest q deck hn) set ≡ bestOverload q (lanesOf deck) (laneBest q deck hn) (laneBest q deck ho)
+  pub onDeck : lane < lanes job
+  pub placed : PlacedRight q job hn ho set (λ i. eqb i lane) (x .placement)
+  pub gives : pos 20 *ℤ laneBest q job ho lane +ℤ setSum (twentieths job) (lanes job) (laneBest q job hn) set ≡ bestOverload q (twentieths job) (lanes job) (laneBest q job hn) (laneBest q job ho)

@@ -72,7 +72,7 @@ fn counted(set: u32, i: usize, c: Chosen) -> i64
 fn set_sum(hn: [Chosen; 5], n: usize, set: u32) -> i64
     requires { ⌜ (0 < n) × (n ≤ 5) × (set < 2 ^ n) ⌝ }
     requires { ⌜ ((i : ℕ) → i < n → Within 21500000000000 (valueOf hn i)) ⌝ }
-    ensures { λ r. ⌜ (r ≡ setSum n (valueOf hn) set) × Within 1290000000000000 r ⌝ }
+    ensures { λ r. ⌜ (r ≡ setSum reductionOf n (valueOf hn) set) × Within 1290000000000000 r ⌝ }
 {
     let mut sum: i64 = 0;
     for i in 0..n {

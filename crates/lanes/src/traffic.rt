@@ -11,7 +11,7 @@ use model::Placement;
 ghost use mathlib.Core.Path.{_≡_};
 ghost use Prim.Native.Nat.{_*_, _≤_, _<_};
 ghost use Rattle.exact.specs.Bounds.{Within};
-ghost use Rattle.model.specs.Job.{Carriageway};
+ghost use Rattle.model.specs.Job.{Job};
 ghost use Rattle.model.specs.Traffic.{effectOf};
 ghost use Rattle.lanes.specs.Traffic.{TrafficFits, EffectsFit, Spanned, laneOf, LanesPlaced, NormalPlaced, OverloadPlaced};
 
@@ -87,7 +87,7 @@ pub fn normal(
     requires { ⌜ TrafficFits spans n g dynamic ⌝ }
     requires { ⌜ EffectsFit 86000000 hn ⌝ }
     ensures { λ r. ⌜ Within 1000000000000 (r .value) ⌝ }
-    ensures { λ r. ⌜ ((deck : Carriageway) → Spanned deck spans n g → NormalPlaced q deck dynamic hn r) ⌝ }
+    ensures { λ r. ⌜ ((job : Job) → Spanned job spans n g → NormalPlaced q job dynamic hn r) ⌝ }
 {
     let chosen = entries::choose_all(q, spans, n, hn.raising, hn.lowering);
     let sums = sets::set_sums(chosen, n);
@@ -111,7 +111,7 @@ pub fn overload(
     requires { ⌜ TrafficFits spans n g dynamic ⌝ }
     requires { ⌜ EffectsFit 86000000 hn × EffectsFit 102000000 ho ⌝ }
     ensures { λ r. ⌜ Within 1000000000000 (r .value) ⌝ }
-    ensures { λ r. ⌜ ((deck : Carriageway) → Spanned deck spans n g → OverloadPlaced q deck dynamic hn ho r) ⌝ }
+    ensures { λ r. ⌜ ((job : Job) → Spanned job spans n g → OverloadPlaced q job dynamic hn ho r) ⌝ }
 {
     let chosen = entries::choose_all(q, spans, n, hn.raising, hn.lowering);
     let over = entries::choose_all(q, spans, n, ho.raising, ho.lowering);

@@ -80,7 +80,7 @@ module _ (c : tie.After-spans) where
   fits : TrafficFits (c .spans .result) (counted .lane-count .result) (st .args .head .spacing) (c .before .before .factor .result)
   fits = traffic-fits (st .pre .0) (c .before .transverse .ensures) (c .spans .result) (counted .lane-count .ensures) (c .before .before .factor .ensures) (c .spans .ensures .1 .0)
 
-  over : Spanned (job .deck) (c .spans .result) (counted .lane-count .result) (st .args .head .spacing)
+  over : Spanned job (c .spans .result) (counted .lane-count .result) (st .args .head .spacing)
   over = spanned (st .pre .0) (c .before .transverse .ensures) (c .spans .result) (counted .lane-count .ensures) (c .before .before .factor .ensures) (c .spans .ensures .1 .0)
 
   factor : (q : Question) → c .before .before .factor .result ≡ job .dynamic q
@@ -108,14 +108,14 @@ returns c =
     let ol = c .overload2 in
     record {
       normal = record {
-        greatest = normal-found Greatest (job at) d (hn at) (ng .result) (factor at Greatest) (hn-are at) (ng .ensures .1 (job at .deck) (over at));
-        least = normal-found Least (job at) d (hn at) (nl .result) (factor at Least) (hn-are at) (nl .ensures .1 (job at .deck) (over at));
+        greatest = normal-found Greatest (job at) d (hn at) (ng .result) (factor at Greatest) (hn-are at) (ng .ensures .1 (job at) (over at));
+        least = normal-found Least (job at) d (hn at) (nl .result) (factor at Least) (hn-are at) (nl .ensures .1 (job at) (over at));
         nearGreatest = ng .ensures .0;
         nearLeast = nl .ensures .0;
       };
       overload = record {
-        greatest = overload-found Greatest (job at) d (hn at) (ho at) (og .result) (factor at Greatest) (hn-are at) (ho-are at) (og .ensures .1 (job at .deck) (over at));
-        least = overload-found Least (job at) d (hn at) (ho at) (ol .result) (factor at Least) (hn-are at) (ho-are at) (ol .ensures .1 (job at .deck) (over at));
+        greatest = overload-found Greatest (job at) d (hn at) (ho at) (og .result) (factor at Greatest) (hn-are at) (ho-are at) (og .ensures .1 (job at) (over at));
+        least = overload-found Least (job at) d (hn at) (ho at) (ol .result) (factor at Least) (hn-are at) (ho-are at) (ol .ensures .1 (job at) (over at));
         nearGreatest = og .ensures .0;
         nearLeast = ol .ensures .0;
       };

@@ -9,6 +9,7 @@ use native.Mathlib.Decide.{decLe}
 use Rattle.exact.specs.Bounds.{Within}
 use Rattle.exact.proofs.Bounds.{within-pos}
 use Rattle.exact.proofs.Held.{got, told}
+use Rattle.model.specs.Lanes.{reduction}
 use Rattle.model.specs.Traffic.{setSum}
 use Rattle.lanes.specs.declared.entries.Chosen.{Chosen}
 use Rattle.lanes.specs.Sets.{valueOf}
@@ -19,7 +20,7 @@ use Rattle.lanes.proofs.sets.set_sums.Tie as tie
 
 -- a set's sum, with its bound
 abbrev Summed : ℕ → List Chosen → ℕ → ℤ → Type 0
-Summed n hn k z = (z ≡ setSum n (valueOf hn) k) × Within 1290000000000000 z
+Summed n hn k z = (z ≡ setSum reduction n (valueOf hn) k) × Within 1290000000000000 z
 
 abbrev Inv-loop : tie.InvT-loop
 Inv-loop hn n sums₀ set₀ set-end sums set = (set ≤ 2 ^ n) × FilledTo (Summed n hn) 32 (pos 0) set sums
