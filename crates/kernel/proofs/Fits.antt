@@ -18,7 +18,7 @@ use Rattle.job.specs.declared.header.Header.{Header}
 use Rattle.job.proofs.Starts.{line-length, transverse-length}
 use Rattle.job.proofs.Rulings.{is-sized}
 use Rattle.line.specs.Fits.{LineFits}
-use Rattle.lanes.specs.Fits.{AcrossFits}
+use Rattle.lanes.specs.Transverse.{TransverseFits}
 use Rattle.rows.specs.Tables.{TablesFit}
 use Rattle.rows.specs.Governed.{StateFound}
 use Rattle.rows.proofs.Sections.{tables-fit}
@@ -57,10 +57,10 @@ module _ {b : List ℕ} {head : Header} (ready : Ready b head) where
       let l = length-range _ (header .length) in
       own (λ h. (1 ≤ h .h) × ((h .h ≤ 50) × (h .pieces * h .h ≤ 1000))) (l .0, (l .1, header .reach))
 
-  pub across-fits : AcrossFits (transverseSection b) (head .width) (head .spacing)
+  pub across-fits : TransverseFits (transverseSection b) (head .width) (head .spacing)
   across-fits =
       let e = transverse-length b sized in
-      own (λ h. AcrossFits (transverseSection b) (h .width) (h .spacing))
+      own (λ h. TransverseFits (transverseSection b) (h .width) (h .spacing))
       (record {
         wide = header .wide .least;
         narrow = header .wide .most;
@@ -72,9 +72,6 @@ module _ {b : List ℕ} {head : Header} (ready : Ready b head) where
 
   pub tables : TablesFit (effectSection b) (rowSection b) (recordSection b) (head .rows) (head .records)
   tables = own (λ h. TablesFit (effectSection b) (rowSection b) (recordSection b) (h .rows) (h .records)) (tables-fit b (ready .patch) (ready .accepted))
-
-  pub width-limits : (300 ≤ head .width) × (head .width ≤ 2079)
-  width-limits = (across-fits .wide, across-fits .narrow)
 
   pub dynamic-limits : (1 ≤ head .kind) × ((head .kind ≤ 3) × (dynamicFits (pos (head .kind)) (pos (head .value)) ≡ true))
   dynamic-limits =

@@ -3,20 +3,17 @@ use mathlib.Core.Path.{_≡_, refl, sym, _∙_, ap, ap₂, subst}
 use mathlib.Core.Bool.{Bool, true, false, true≢false, false≢true}
 use mathlib.Core.Option.{some}
 use mathlib.Core.List.{List, _++_}
-use Prim.Native.Nat.{ℕ, zero, suc, _+_, _-_, _*_, _^_, _≤_, _<_}
+use Prim.Native.Nat.{ℕ, zero, _*_, _^_, _<_}
 use native.Mathlib.Nat.{mul-pos, mul-le-mul-left}
-use native.Mathlib.Decide.{decLe}
 use native.Mathlib.Omega.{arith}
 use lib.IntN.{ℤ, pos, natAbs, _+ℤ_, _*ℤ_}
-use lib.Dec.{eqb}
 use lib.ListN.{getD, List·getD-append}
-use borrow.Author.Tests.{eq-eqb, ne-eqb}
 use Rattle.exact.specs.Choice.{if_then_else_}
 use Rattle.exact.specs.Questions.{rounded}
-use Rattle.exact.specs.Ranges.{countTo}
+use Rattle.exact.specs.Ranges.{sumTo, countTo}
 use Rattle.exact.specs.declared.Question.{Question}
 use Rattle.exact.proofs.Exact.{_⊕_, _⊗_, lit, _≐_, solve}
-use Rattle.exact.proofs.Ranges.{sum-cong, sum-scale, sum-zero, sum-one, count-cong, length-listOf, getD-listOf}
+use Rattle.exact.proofs.Ranges.{sum-cong, sum-scale, count-cong, length-listOf, getD-listOf}
 use Rattle.exact.proofs.Rounding.{rounded-scale}
 use Rattle.model.specs.Job.{InfluenceLine, Job, Limit, Live, noTraffic, normal, overload}
 use Rattle.model.specs.Line.{Kind, HN, HO, axle, bestPair, patchByte, patchBytes, uniformPart, lineEffect}
@@ -164,47 +161,19 @@ module _ (q : Question) (job : Job) (patch rest : List ℕ) (a : Account) (bytes
         go HO i (Hn sense) centre r t = absurd (false≢true t)
         go HO i (Ho sense) centre r t = element-given HO sense i centre r
 
--- ---- a placement by its set of HN lanes
-count-false : (n : ℕ) → countTo n (λ i. false) ≡ 0
-count-false zero = refl
-count-false (suc n) = ap (λ (m : ℕ). m + 0) (count-false n)
+-- ---- a placement by its set of HN lanes and the test of its HO lanes
+module _ (q : Question) (job : Job) (p : Placement) (s : ℕ) (over : ℕ → Bool) (small : s < 2 ^ lanes job)
+    (lanes-hn : (i : ℕ) → i < lanes job → entryIs HN (laneAt p i .entry) ≡ bit s i) (lanes-ho : (i : ℕ) → i < lanes job → entryIs HO (laneAt p i .entry) ≡ over i) where
+  pub placed-lanes : placedLanes job HO p ≡ countTo (lanes job) over
+  placed-lanes = count-cong (lanes job) _ _ lanes-ho
 
-count-at : (n o : ℕ) → o < n → countTo n (λ i. eqb i o) ≡ 1
-count-at zero o h = absurd (omega arith)
-count-at (suc n) o h = elim (decLe n o) [
-  | yes l ↦
-      let e : n ≡ o = omega arith in
-      ap₂ (λ (m : ℕ) (t : Bool). m + (if t then 1 else 0)) (count-cong n _ (λ i. false) (λ i k. ne-eqb i o (λ f. omega arith)) ∙ count-false n) (eq-eqb n o e)
-  | no l ↦ ap₂ (λ (m : ℕ) (t : Bool). m + (if t then 1 else 0)) (count-at n o (omega arith)) (ne-eqb n o (λ f. omega arith))
-]
-
-module _ (q : Question) (job : Job) (p : Placement) (s : ℕ) (small : s < 2 ^ lanes job) (lanes-hn : (i : ℕ) → i < lanes job → entryIs HN (laneAt p i .entry) ≡ bit s i) where
-  set-part : twentieths job (placedLanes job HN p) *ℤ placedUnder q job HN p ≡ setSum (twentieths job) (lanes job) (laneEffect q job HN) s
+  pub placed-sum : placedSum q job p ≡ pos 20 *ℤ sumTo (lanes job) (λ i. if over i then laneEffect q job HO i else pos 0) +ℤ setSum (twentieths job) (lanes job) (laneEffect q job HN) s
   unfolding setSum
-  set-part =
+  placed-sum =
       let n = lanes job in
-      ap₂ (λ (m : ℕ) (x : ℤ). twentieths job m *ℤ x) (count-cong n _ _ lanes-hn ∙ sym (ones-count n s small))
-      (sum-cong n _ _ (λ i h. ap (λ (t : Bool). if t then laneEffect q job HN i else pos 0) (lanes-hn i h)))
-
-  -- without HO it sums to the set's
-  pub placed-normal : ((i : ℕ) → i < lanes job → entryIs HO (laneAt p i .entry) ≡ false) → (placedLanes job HO p ≡ 0) × (placedSum q job p ≡ setSum (twentieths job) (lanes job) (laneEffect q job HN) s)
-  placed-normal no-ho = (
-    count-cong (lanes job) _ (λ i. false) no-ho ∙ count-false (lanes job),
-    ap₂ (λ (x y : ℤ). pos 20 *ℤ x +ℤ y) (sum-zero (lanes job) _ (λ i h. ap (λ (t : Bool). if t then laneEffect q job HO i else pos 0) (no-ho i h))) set-part
-        ∙ solve 1 (λ x. lit 20 ⊗ lit 0 ⊕ x ≐ x) tt (setSum (twentieths job) (lanes job) (laneEffect q job HN) s),
-  )
-
-  -- with HO in lane o alone, that lane's HO too
-  pub placed-overload : (o : ℕ) → o < lanes job → ((i : ℕ) → i < lanes job → entryIs HO (laneAt p i .entry) ≡ eqb i o) →
-      (placedLanes job HO p ≡ 1) × (placedSum q job p ≡ pos 20 *ℤ laneEffect q job HO o +ℤ setSum (twentieths job) (lanes job) (laneEffect q job HN) s)
-  placed-overload o l one =
-      let n = lanes job in
-      let ho : ℕ → ℤ = laneEffect q job HO in
-      let picked : ℕ → ℤ = λ i. if entryIs HO (laneAt p i .entry) then ho i else pos 0 in (
-        count-cong n _ (λ i. eqb i o) one ∙ count-at n o l,
-        ap₂ (λ (x y : ℤ). pos 20 *ℤ x +ℤ y)
-            (sum-one n picked o l (λ i h d. ap (λ (t : Bool). if t then ho i else pos 0) (one i h ∙ ne-eqb i o d)) ∙ ap (λ (t : Bool). if t then ho o else pos 0) (one o l ∙ eq-eqb o o refl)) set-part,
-      )
+      ap₂ (λ (x y : ℤ). pos 20 *ℤ x +ℤ y) (sum-cong n _ _ (λ i h. ap (λ (t : Bool). if t then laneEffect q job HO i else pos 0) (lanes-ho i h)))
+      (ap₂ (λ (m : ℕ) (x : ℤ). twentieths job m *ℤ x) (count-cong n _ _ lanes-hn ∙ sym (ones-count n s small))
+      (sum-cong n _ _ (λ i h. ap (λ (t : Bool). if t then laneEffect q job HN i else pos 0) (lanes-hn i h))))
 
 -- ---- a state
 -- the traffic counted for a row is its value, where both reported placements give theirs

@@ -231,7 +231,7 @@ factor-up : (q : Question) (c x v : ℤ) → pos 0 ≤ℤ c → NoBetter q x v �
 factor-up Greatest c x v p h = linear 3 (λ c x v. lit 0 ≼ (c ⊝ lit 0) ⊗ (v ⊝ x) ⇒ x ⊗ c ≼ v ⊗ c) c x v (omega arith) (prod p h)
 factor-up Least c x v p h = linear 3 (λ c x v. lit 0 ≼ (c ⊝ lit 0) ⊗ (x ⊝ v) ⇒ v ⊗ c ≼ x ⊗ c) c x v (omega arith) (prod p h)
 
-factor-down : (q : Question) (c x v : ℤ) → c ≤ℤ pos 0 → NoBetter (other q) x v → NoBetter q (x *ℤ c) (v *ℤ c)
+pub factor-down : (q : Question) (c x v : ℤ) → c ≤ℤ pos 0 → NoBetter (other q) x v → NoBetter q (x *ℤ c) (v *ℤ c)
 factor-down Greatest c x v p h = linear 3 (λ c x v. lit 0 ≼ (lit 0 ⊝ c) ⊗ (x ⊝ v) ⇒ x ⊗ c ≼ v ⊗ c) c x v (omega arith) (prod p h)
 factor-down Least c x v p h = linear 3 (λ c x v. lit 0 ≼ (lit 0 ⊝ c) ⊗ (v ⊝ x) ⇒ v ⊗ c ≼ x ⊗ c) c x v (omega arith) (prod p h)
 

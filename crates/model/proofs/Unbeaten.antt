@@ -33,7 +33,7 @@ use Rattle.model.proofs.Centre.{lane-bound}
 use Rattle.model.proofs.Sets.{setNumber, set-below, set-bit, set-sum}
 
 -- r is not negative
-reduction-nonneg : (m : ℕ) → pos 0 ≤ℤ reduction m
+pub reduction-nonneg : (m : ℕ) → pos 0 ≤ℤ reduction m
 unfolding reduction
 reduction-nonneg m =
     let P : ℤ → Type 0 = λ z. pos 0 ≤ℤ z in
