@@ -10,9 +10,8 @@ use Rattle.exact.specs.declared.Question.{Question}
 use Rattle.exact.proofs.Bridge.{by-test}
 use Rattle.model.specs.Job.{Job, Limit, Live}
 use Rattle.model.specs.Decode.{decode}
-use Rattle.model.specs.Lanes.{CentreFits, laneEdge}
+use Rattle.model.specs.Lanes.{CentreFits, lanes, unit, highestIn}
 use Rattle.model.specs.Line.{HN, HO}
-use Rattle.model.specs.Traffic.{lanes}
 use Rattle.model.specs.Answered.{Answered, refused, accepted, refusalAnswer, zeroTraffic, laneAt, reported, reportedElement, reportedLoad, TrafficRight, StateRight}
 use Rattle.model.specs.declared.Answer.{Answer}
 use Rattle.model.specs.declared.Account.{Account}
@@ -23,7 +22,7 @@ use Rattle.model.specs.declared.State.{State}
 use Rattle.model.specs.declared.State.the-variants.{Absent, Reported}
 use Rattle.model.proofs.Verdict.{clear, job-accepted}
 use Rattle.model.proofs.HeaderLimits.{HeaderFits, header-fits}
-use Rattle.model.proofs.Lanes.{lane-count}
+use Rattle.model.proofs.Lanes.{lanes-few, unit-pos}
 use Rattle.encode.specs.Encoding.{CentresFit, RowsFit, CountsFit}
 
 -- the lanes of a refusal's account
@@ -37,13 +36,13 @@ zero-centres (suc (suc (suc (suc (suc i))))) = (omega arith, omega arith)
 
 module _ (job : Job) (patch : List ℕ) (a : Account) (narrow : job .deck .width ≤ 2079) (few : job .rows ≤ 32) where
   -- a centre that keeps its distance from its lane's edges is on the carriageway
-  on-deck : (i centre : ℕ) → i < lanes job → CentreFits (job .deck) i (lanes job) centre → centre < 2 ^ 63
+  on-deck : (i centre : ℕ) → i < lanes job → CentreFits job i (unit job) centre → centre < 2 ^ 63
+  unfolding highestIn
   on-deck i centre h fits =
-      let n = lane-count (job .deck .width) in
-      let inside : lanes job * centre ≤ lanes job * laneEdge (job .deck) (suc i) = omega (arith, fits .fromRight) in
+      let n = lanes-few job in
       let last : suc i ≤ 5 = omega arith in
-      let edge : laneEdge (job .deck) (suc i) ≤ 5 * 2079 = mul-le-mul last narrow in
-      omega (arith, le-of-mul-le-mul-left inside (n .0))
+      let edge : suc i * job .deck .width ≤ 5 * 2079 = mul-le-mul last narrow in
+      omega (arith, le-of-mul-le-mul-left (fits .to) (unit-pos job))
 
   centre-small : {q : Question} {live : Live} (x : Extreme) → TrafficRight job patch a q live x → (i : ℕ) → laneAt (x .placement) i .centre < 2 ^ 63
   unfolding reported
@@ -75,7 +74,7 @@ counts-fit (refused r v u p) =
 counts-fit {b} {before} {after} {x} (accepted v r) =
     let a = x .account in
     let right = r .account in
-    let n = lane-count (decode b .deck .width) in
+    let n = lanes-few (decode b) in
     record {
       normal = λ i. (small (a .normal .greatest) (right .normalGreatest) i, small (a .normal .least) (right .normalLeast) i);
       overload = λ i. (small (a .overload .greatest) (right .overloadGreatest) i, small (a .overload .least) (right .overloadLeast) i);

@@ -23,7 +23,7 @@ use Rattle.job.specs.Sized.{Sized}
 use Rattle.job.proofs.Sizes.{part-length}
 use Rattle.job.proofs.Rulings.{is-sized}
 use Rattle.line.specs.Fits.{LineFits}
-use Rattle.lanes.specs.Fits.{AcrossFits}
+use Rattle.lanes.specs.Transverse.{TransverseFits}
 use Rattle.rows.specs.Tables.{TablesFit}
 use Rattle.rows.specs.Governed.{StateFound}
 use Rattle.rows.proofs.Sections.{tables-fit}
@@ -62,10 +62,10 @@ module _ {b : List ℕ} {head : Header} (ready : Ready b head) where
       let l = length-range _ (header .length) in
       own (λ h. (1 ≤ h .h) × ((h .h ≤ 50) × (h .pieces * h .h ≤ 1000))) (l .0, (l .1, header .reach))
 
-  pub across-fits : AcrossFits (sectionOf b Transverse) (head .width) (head .spacing)
+  pub across-fits : TransverseFits (sectionOf b Transverse) (head .width) (head .spacing)
   across-fits =
       let e = part-length sized Transverse in
-      own (λ h. AcrossFits (sectionOf b Transverse) (h .width) (h .spacing))
+      own (λ h. TransverseFits (sectionOf b Transverse) (h .width) (h .spacing))
       (record {
         wide = header .wide .least;
         narrow = header .wide .most;
@@ -77,9 +77,6 @@ module _ {b : List ℕ} {head : Header} (ready : Ready b head) where
 
   pub tables : TablesFit (sectionOf b Effects) (sectionOf b Rows) (sectionOf b Records) (head .rows) (head .records)
   tables = own (λ h. TablesFit (sectionOf b Effects) (sectionOf b Rows) (sectionOf b Records) (h .rows) (h .records)) (tables-fit b (ready .accepted))
-
-  pub width-limits : (300 ≤ head .width) × (head .width ≤ 2079)
-  width-limits = (across-fits .wide, across-fits .narrow)
 
   pub dynamic-limits : (1 ≤ head .kind) × ((head .kind ≤ 3) × (dynamicFits (pos (head .kind)) (pos (head .value)) ≡ true))
   dynamic-limits =

@@ -2,27 +2,22 @@
 use mathlib.Core.Path.{_≡_}
 use mathlib.Core.Option.{none}
 use mathlib.Core.List.{List}
-use Prim.Native.Nat.{ℕ, _≤_, _<_}
+use Prim.Native.Nat.{ℕ}
 use Rattle.exact.specs.Bounds.{Within}
 use Rattle.exact.specs.declared.Question.{Question}
 use Rattle.exact.specs.declared.Question.the-variants.{Greatest, Least}
 use Rattle.model.specs.Magnitudes.{trafficMost}
 use Rattle.model.specs.Job.{Job, Limit, service, ultimate, Live, normal, overload}
-use Rattle.model.specs.Line.{Kind, HO, lineEffect}
 use Rattle.model.specs.Format.{headerOf}
 use Rattle.model.specs.Refusals.{jobVerdict}
-use Rattle.model.specs.Traffic.{lanes, bestSum, trafficValue}
-use Rattle.model.specs.Arrangements.{OverloadLanes}
-use Rattle.model.specs.Answered.{laneAt, setOf, extremeOf, PositionRight}
-use Rattle.model.specs.Placements.{EntryRight, placedLanes, placedSum}
+use Rattle.model.specs.Lanes.{lanes}
+use Rattle.model.specs.Answered.{extremeOf, PositionRight}
 use Rattle.model.specs.declared.Sense.the-variants.{Raising, Lowering}
-use Rattle.model.specs.declared.Entry.the-variants.{Unloaded}
-use Rattle.model.specs.declared.Header.{Header}
-use Rattle.model.specs.declared.Extreme.{Extreme}
 use Rattle.model.specs.declared.Traffic.{Traffic}
 use Rattle.model.specs.declared.State.{State}
 use Rattle.model.specs.declared.Account.{Account}
-use Rattle.lanes.specs.declared.traffic.Effects.{Effects}
+use Rattle.model.specs.declared.Header.{Header}
+use Rattle.lanes.specs.Loadings.{TrafficPlaced}
 use Rattle.rows.specs.Governed.{trafficOf, StateFound}
 use Rattle.rows.specs.declared.state.LiveBoth.{LiveBoth}
 use Rattle.rows.specs.declared.state.LiveValues.{LiveValues}
@@ -32,20 +27,6 @@ use Rattle.kernel.specs.declared.TrafficValues.{TrafficValues}
 pub record Ready (b : List ℕ) (head : Header) : Type 0 where
   pub own : head ≡ headerOf b
   pub accepted : jobVerdict b ≡ none
-
--- a kind's line effects
-abbrev pub effectsOf : Job → Kind → Effects
-effectsOf job kind = record { raising = lineEffect (job .line) kind Raising; lowering = lineEffect (job .line) kind Lowering }
-
--- a placement of a live kind whose entries are each a best of their lane, and whose sum is the best sum
-pub record TrafficPlaced (q : Question) (job : Job) (live : Live) (x : Extreme) : Type 0 where
-  pub value : x .value ≡ trafficValue q job live
-  pub entries : (i : ℕ) → i < lanes job → EntryRight q job i (laneAt (x .placement) i .entry) (laneAt (x .placement) i .centre)
-  pub kinds : OverloadLanes live (placedLanes job HO (x .placement))
-  pub sum : placedSum q job (x .placement) ≡ bestSum q job live
-  pub set : x .placement .set ≡ setOf (x .placement .lanes)
-  pub onDeck : (i : ℕ) → lanes job ≤ i → laneAt (x .placement) i .entry ≡ Unloaded
-  pub idle : (i : ℕ) → laneAt (x .placement) i .entry ≡ Unloaded → laneAt (x .placement) i .centre ≡ 0
 
 -- a live kind's two values, near enough to go on into the rows
 pub record TrafficFound (job : Job) (live : Live) (t : Traffic) : Type 0 where

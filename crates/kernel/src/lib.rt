@@ -4,8 +4,6 @@ use job::header;
 use job::refusals;
 use job::sections;
 use lanes::centres;
-use lanes::count;
-use lanes::dynamic;
 use lanes::traffic;
 use lanes::traffic::Effects;
 use line::effect;
@@ -114,14 +112,12 @@ fn values(job: &[u8], head: Header, raising: Sought, lowering: Sought) -> Traffi
         raising: Ho::effect(raising),
         lowering: Ho::effect(lowering),
     };
-    let n = count::lane_count(head.width);
-    let g = head.spacing;
     let d = dynamic::factor(head.kind, head.value);
-    let spans = centres::spans(sections::section(job, head, Part::Transverse), head.width, n, g);
-    let ng = traffic::normal(Question::Greatest, spans, n, g, d, hn);
-    let nl = traffic::normal(Question::Least, spans, n, g, d, hn);
-    let og = traffic::overload(Question::Greatest, spans, n, g, d, hn, ho);
-    let ol = traffic::overload(Question::Least, spans, n, g, d, hn, ho);
+    let across = centres::across_of(sections::section(job, head, Part::Transverse), head.width, head.spacing);
+    let ng = traffic::normal(Question::Greatest, across, d, hn);
+    let nl = traffic::normal(Question::Least, across, d, hn);
+    let og = traffic::overload(Question::Greatest, across, d, hn, ho);
+    let ol = traffic::overload(Question::Least, across, d, hn, ho);
     let normal = Traffic {
         greatest: ng,
         least: nl,
@@ -133,7 +129,7 @@ fn values(job: &[u8], head: Header, raising: Sought, lowering: Sought) -> Traffi
     TrafficValues {
         normal,
         overload,
-        lanes: n,
+        lanes: across.lanes,
     }
 }
 

@@ -11,17 +11,17 @@ use Rattle.exact.specs.Questions.{beats, NoBetter}
 use Rattle.exact.specs.declared.Question.{Question}
 use Rattle.exact.proofs.Bridge.{by-test}
 use Rattle.exact.proofs.Extremes.{no-better-refl, no-better-trans, beats-yes, beats-no}
-use Rattle.lanes.specs.Candidates.{ordinateAt, betterCentre, Stands, BestBefore}
+use Rattle.lanes.specs.Candidates.{ordinateAt, betterCentre, CentreStands, BestBefore}
 use Rattle.lanes.specs.declared.centres.Centre.{Centre}
 
 -- what trying one more centre keeps and adds
 record Tried (q : Question) (s : List ℕ) (d lo hi : ℕ) (c : Centre) (at : ℕ) (r : Centre) : Type 0 where
-  stands : Stands s d lo hi r
+  stands : CentreStands s d lo hi r
   kept : NoBetter q (c .ordinate) (r .ordinate)
   added : NoBetter q (ordinateAt s d at) (r .ordinate)
 
 module _ (q : Question) (s : List ℕ) (d lo hi : ℕ) where
-  tried : (c : Centre) (at : ℕ) → Stands s d lo hi c → lo ≤ at → at ≤ hi → Within 250000 (ordinateAt s d at) → Tried q s d lo hi c at (betterCentre q s d c at)
+  tried : (c : Centre) (at : ℕ) → CentreStands s d lo hi c → lo ≤ at → at ≤ hi → Within 250000 (ordinateAt s d at) → Tried q s d lo hi c at (betterCentre q s d c at)
   tried c at st l r n =
       let here : Centre = record { ordinate = ordinateAt s d at; at = at } in
       by-test (beats q (ordinateAt s d at) (c .ordinate)) (λ t. Tried q s d lo hi c at (if t then here else c))

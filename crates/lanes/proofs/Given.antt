@@ -1,35 +1,33 @@
--- What a traffic value is worked out from, as the code reads it.
-use mathlib.Core.Path.{sym, subst}
+-- The elements that the code chose for a kind: their values, and in a job that each gives its lane's best.
+use mathlib.Core.Path.{_≡_, sym, _∙_, subst}
 use mathlib.Core.List.{List}
 use Prim.Native.Nat.{ℕ, _*_, _≤_, _<_, _^_}
-use native.Mathlib.Nat.{mul-le-mul}
 use lib.Dec.{lit<}
 use lib.IntN.{ℤ}
 use lib.ListN.{getD}
 use mir.Syntax.{w64}
 use mir.Val.{toZ, ofZ}
 use Rattle.exact.specs.Bounds.{Within}
+use Rattle.exact.specs.Questions.{NoBetter}
 use Rattle.exact.specs.declared.Question.{Question}
 use Rattle.exact.proofs.Bounds.{within-le}
-use Rattle.exact.proofs.Held.{known}
-use Rattle.lanes.specs.Spans.{noSpan}
+use Rattle.exact.proofs.Held.{known, told}
+use Rattle.model.specs.Job.{Job, Live}
+use Rattle.model.specs.Line.{Kind, HN, HO}
+use Rattle.model.specs.Traffic.{laneEffect}
+use Rattle.lanes.specs.Spans.{AcrossFits, Spanned, noSpan}
 use Rattle.lanes.specs.Entries.{noElement, AllChosen}
-use Rattle.lanes.specs.Sets.{valueOf}
-use Rattle.lanes.specs.Traffic.{TrafficFits, EffectsFit}
-use Rattle.lanes.specs.declared.centres.Span.{Span}
+use Rattle.lanes.specs.Sets.{valueAt, ValuesFit, LoadingRight}
+use Rattle.lanes.specs.Loadings.{LineEffectsFit, effectsOf, ElementRight, LoadingOf}
+use Rattle.lanes.specs.declared.centres.Across.{Across}
 use Rattle.lanes.specs.declared.entries.Chosen.{Chosen}
+use Rattle.lanes.specs.declared.entries.Elements.{Elements}
+use Rattle.lanes.specs.declared.sets.Loading.{Loading}
 use Rattle.lanes.specs.declared.traffic.Effects.{Effects}
-use Rattle.lanes.proofs.Elements.{chosen-near}
+use Rattle.lanes.proofs.Best.{loading-cong}
+use Rattle.lanes.proofs.Elements.{best-near, best-some, chosen-element}
 
--- a number as it is read back
-pub bits-near : {b : ℕ} (x : ℤ) → Within b x → b < 2 ^ 63 → Within b (toZ w64 (ofZ w64 x))
-bits-near x r room = subst (Within _) (sym (known w64 r room .is)) r
-
--- n g, the transverse unit
-pub unit-near : {spans : List Span} {n g dynamic : ℕ} → TrafficFits spans n g dynamic → (10 ≤ n * g) × (n * g ≤ 250)
-unit-near f = (mul-le-mul (f .some) (f .apart), mul-le-mul (f .few) (f .close))
-
-module _ (e : Effects) {b : ℕ} (fit : EffectsFit b e) (small : b ≤ 102000000) where
+module _ (e : Effects) {b : ℕ} (fit : LineEffectsFit b e) (small : b ≤ 102000000) where
   raising-near : Within 102000000 (e .raising)
   raising-near = within-le (fit .raising) small
 
@@ -38,14 +36,41 @@ module _ (e : Effects) {b : ℕ} (fit : EffectsFit b e) (small : b ≤ 102000000
 
   -- line effects as they are read
   pub effects-near : Within 102000000 (toZ w64 (ofZ w64 (e .raising))) × Within 102000000 (toZ w64 (ofZ w64 (e .lowering)))
-  effects-near = (bits-near (e .raising) raising-near (lit< tt), bits-near (e .lowering) lowering-near (lit< tt))
+  effects-near = (told (known w64 raising-near (lit< tt)) .1, told (known w64 lowering-near (lit< tt)) .1)
 
-  module _ (q : Question) (spans : List Span) (n : ℕ) (all : List Chosen) (right : AllChosen q spans n (toZ w64 (ofZ w64 (e .raising))) (toZ w64 (ofZ w64 (e .lowering))) all) where
-    -- the elements chosen under them
-    pub chosen-right : AllChosen q spans n (e .raising) (e .lowering) all
-    chosen-right =
-        subst (λ (x : ℤ). AllChosen q spans n x (e .lowering) all) (known w64 raising-near (lit< tt) .is)
-        (subst (λ (y : ℤ). AllChosen q spans n (toZ w64 (ofZ w64 (e .raising))) y all) (known w64 lowering-near (lit< tt) .is) right)
+  module _ (q : Question) (across : Across) (r : Elements) (found : AllChosen q (across .spans) (across .lanes) (toZ w64 (ofZ w64 (e .raising))) (toZ w64 (ofZ w64 (e .lowering))) r) where
+    right : AllChosen q (across .spans) (across .lanes) (e .raising) (e .lowering) r
+    right =
+        subst (λ (x : ℤ). AllChosen q (across .spans) (across .lanes) x (e .lowering) r) (known w64 raising-near (lit< tt) .is)
+        (subst (λ (y : ℤ). AllChosen q (across .spans) (across .lanes) (toZ w64 (ofZ w64 (e .raising))) y r) (known w64 lowering-near (lit< tt) .is) found)
 
-    pub values-near : {g dynamic : ℕ} → TrafficFits spans n g dynamic → (i : ℕ) → i < n → Within (250000 * b) (valueOf all i)
-    values-near fits i h = chosen-near q (getD spans i noSpan) e (getD all i noElement) (fits .near i h) fit (chosen-right .each i h)
+    -- their effects, none worse than 0
+    pub values-fit : AcrossFits across → ValuesFit q (250000 * b) (across .lanes) (valueAt (r .values))
+    values-fit fits = record {
+      some = λ i h. subst (NoBetter q _) (sym (right .values i h)) (best-some q (getD (across .spans) i noSpan) e (fits .spans i h) fit);
+      near = λ i h. subst (Within (250000 * b)) (sym (right .values i h)) (best-near q (getD (across .spans) i noSpan) e (fits .spans i h) fit);
+    }
+
+    -- in a job whose line effects these are
+    module _ (job : Job) (kind : Kind) (on : Spanned job across) (is : e ≡ effectsOf job kind) where
+      pub elements : (i : ℕ) → i < across .lanes → ElementRight q job kind i (getD (r .all) i noElement)
+      elements i h =
+          chosen-element q job kind i (getD (across .spans) i noSpan) (on .each i h) (getD (r .all) i noElement) (subst (LineEffectsFit b) is fit)
+          (subst (λ (e : Effects). AllChosen q (across .spans) (across .lanes) (e .raising) (e .lowering) r) is right .each i h)
+
+      pub effects : (i : ℕ) → i < across .lanes → valueAt (r .values) i ≡ laneEffect q job kind i
+      effects i h = right .values i h ∙ sym (right .each i h .best) ∙ elements i h .value
+
+-- a live kind's best loading over the elements' values is the job's
+pub loading-of : (q : Question) (job : Job) (live : Live) (across : Across) (dynamic : ℕ) (best : Loading) (hn ho : List Chosen) (f g : ℕ → ℤ) → 0 < across .lanes → Spanned job across → dynamic ≡ job .dynamic q →
+    LoadingRight q live (across .lanes) f g best → ((i : ℕ) → i < across .lanes → f i ≡ laneEffect q job HN i) → ((i : ℕ) → i < across .lanes → g i ≡ laneEffect q job HO i) →
+    ((i : ℕ) → i < across .lanes → ElementRight q job HN i (getD hn i noElement)) → ((i : ℕ) → i < across .lanes → i ≡ best .lane → ElementRight q job HO i (getD ho i noElement)) →
+    LoadingOf q job live across dynamic best hn ho
+loading-of q job live across dynamic best hn ho f g some on factor l is-f is-g under-hn under-ho = record {
+  spanned = on;
+  factor = factor;
+  loading = subst (λ (n : ℕ). LoadingRight q live n (laneEffect q job HN) (laneEffect q job HO) best) (on .lanes)
+      (loading-cong q (across .lanes) f (laneEffect q job HN) g (laneEffect q job HO) some is-f is-g live best l);
+  underHn = subst (λ (n : ℕ). (i : ℕ) → i < n → ElementRight q job HN i (getD hn i noElement)) (on .lanes) under-hn;
+  underHo = subst (λ (n : ℕ). (i : ℕ) → i < n → i ≡ best .lane → ElementRight q job HO i (getD ho i noElement)) (on .lanes) under-ho;
+}

@@ -2,12 +2,10 @@ pub mod Ordinates
 pub mod Candidates
 pub mod Limits
 pub mod Filled
-pub mod Powers
-pub mod Search
 pub mod Reduced
-pub mod Overloads
 pub mod SetNumbers
+pub mod Growth
+pub mod Best
 pub mod Elements
 pub mod Placements
-pub mod Values
 pub mod Given

@@ -1,23 +1,29 @@
 -- A lane's limits: they leave room for a centre, and the section has the ordinates for every centre between them.
-use mathlib.Core.Path.{_≡_, _∙_, ap, subst}
+use mathlib.Core.Path.{_≡_, sym, _∙_, ap, subst}
 use mathlib.Core.List.{List}
 use Prim.Native.Nat.{ℕ, suc, _+_, _-_, _*_, _/_, _≤_, _<_}
 use native.Mathlib.Nat.{mul-comm, mul-pos, mul-le-mul, mul-le-mul-right, mul-sub, mul-div-mul-left, add-div-right, le-div-iff-mul-le}
 use native.Mathlib.Numerals.{add-one}
 use native.Mathlib.Omega.{arith}
 use lib.IntN.{ℤ}
-use Rattle.exact.specs.Questions.{NoBetter}
+use lib.ListN.{getD}
+use lib.Signed.{_≤ℤ_}
+use Rattle.exact.specs.Questions.{NoBetter, extreme}
 use Rattle.exact.specs.declared.Question.{Question}
+use Rattle.exact.specs.declared.Question.the-variants.{Greatest, Least}
 use Rattle.exact.proofs.Extremes.{no-better-antisym, extreme-bounds}
+use Rattle.exact.proofs.Order.{le-trans}
+use Rattle.model.specs.Job.{Carriageway}
 use Rattle.model.specs.Decode.{carriageway}
-use Rattle.model.specs.Lanes.{laneCount, lowest, highest, transverseAt, bestOrdinate}
+use Rattle.model.specs.Lanes.{laneCount, lanesOf, lowest, highest, transverseAt, bestOrdinate}
 use Rattle.model.specs.Format.{spaces}
 use Rattle.model.proofs.Lanes.{lane-count, lane-room}
 use Rattle.model.proofs.Centre.{ordinate-bound}
-use Rattle.lanes.specs.Fits.{AcrossFits, OrdinatesTo}
-use Rattle.lanes.specs.Spans.{CentreRight}
+use Rattle.lanes.specs.Transverse.{TransverseFits, OrdinatesTo}
+use Rattle.lanes.specs.Spans.{CentreRight, SpanRight, noSpan, AcrossRight}
 use Rattle.lanes.specs.Candidates.{ordinateAt, BestBefore}
 use Rattle.lanes.specs.declared.centres.Centre.{Centre}
+use Rattle.lanes.specs.declared.centres.Span.{Span}
 use Rattle.lanes.proofs.Ordinates.{div-mono}
 
 -- what a lane's limits ask of the machine, and of the section
@@ -31,7 +37,7 @@ pub record Limits (s : List ℕ) (w n g i : ℕ) : Type 0 where
   pub order : i * w + 150 * n ≤ (i + 1) * w - 150 * n
   pub ordinates : OrdinatesTo s (((i + 1) * w - 150 * n) / (n * g) + 1)
 
-pub limits : (s : List ℕ) (w n g i : ℕ) → AcrossFits s w g → n ≡ laneCount w → i < n → Limits s w n g i
+pub limits : (s : List ℕ) (w n g i : ℕ) → TransverseFits s w g → n ≡ laneCount w → i < n → Limits s w n g i
 limits s w n g i fits e below =
     let few : n ≤ 5 = rw e (lane-count w .1) in
     let roomy : 300 * n ≤ w = rw e (lane-room w (fits .wide)) in
@@ -85,3 +91,30 @@ centre-right q s w n g i c e g-pos order b =
     let P : ℕ → ℕ → Type 0 = λ n j. let lo = i * w + 150 * n in let hi = j * w - 150 * n in (lo ≤ hi) × BestBefore q s (n * g) lo hi (hi / (n * g) + 1) c in
     let p : P (laneCount w) (suc i) = subst (P (laneCount w)) (add-one i) (subst (λ (n : ℕ). P n (i + 1)) e (order, b)) in
     best-of-lane q s w g i c g-pos (p .0) (p .1)
+
+-- ---- what lies across
+-- no least ordinate is above the greatest
+span-order : (deck : Carriageway) (i : ℕ) (s : Span) → SpanRight deck i s → s .least .ordinate ≤ℤ s .greatest .ordinate
+unfolding bestOrdinate
+span-order deck i s right =
+    let m = highest deck i - lowest deck i in
+    let t : ℕ → ℤ = λ j. transverseAt deck (lanesOf deck) (lowest deck i + j) in
+    subst (λ (x : ℤ). x ≤ℤ s .greatest .ordinate) (sym (right .least .best))
+    (subst (λ (x : ℤ). extreme Least m t ≤ℤ x) (sym (right .greatest .best)) (le-trans (extreme-bounds Least m t 0 (omega arith)) (extreme-bounds Greatest m t 0 (omega arith))))
+
+pub across-right : (s : List ℕ) (w n g : ℕ) (spans : List Span) → TransverseFits s w g → n ≡ laneCount w → ((i : ℕ) → i < n → SpanRight (carriageway s w g) i (getD spans i noSpan)) →
+    AcrossRight (carriageway s w g) (record { spans = spans; lanes = n; unit = n * g })
+across-right s w n g spans fits e each =
+    let count = lane-count w in
+    record {
+      fits = record {
+        some = omega arith;
+        few = omega arith;
+        apart = mul-le-mul {n₁ = 1} {n₂ = n} (omega arith) (fits .apart);
+        close = mul-le-mul {n₁ = n} {n₂ = 5} (omega arith) (fits .close);
+        spans = λ i h. record { greatest = each i h .greatest .near; least = each i h .least .near; order = span-order (carriageway s w g) i (getD spans i noSpan) (each i h) };
+      };
+      lanes = e;
+      unit = ap (λ (m : ℕ). m * g) e;
+      each = each;
+    }

@@ -10,7 +10,7 @@ use Rattle.exact.specs.Bounds.{Within}
 use Rattle.exact.proofs.Bounds.{within-le, within-pos, within-add, within-mul}
 use Rattle.exact.proofs.Bridge.{subbed, ℕ→≡}
 use Rattle.model.specs.Words.{wordAt}
-use Rattle.lanes.specs.Fits.{OrdinatesTo}
+use Rattle.lanes.specs.Transverse.{OrdinatesTo}
 use Rattle.lanes.specs.Candidates.{ordinateAt}
 
 -- with the weights as differences of naturals

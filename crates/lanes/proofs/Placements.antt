@@ -1,32 +1,42 @@
--- The lanes of a placement, by its set and its HO lane: what they carry, and the number of the loaded ones.
+-- The placement of a loading: its lanes carry what the loading says, and in a job it is the live kind's best.
 use mathlib.Core.Path.{_≡_, refl, sym, _∙_, ap, ap₂, subst}
+use mathlib.Core.Logic.{_⊎_, inl, inr}
 use mathlib.Core.Bool.{Bool, true, false}
 use mathlib.Core.List.{List}
 use Prim.Native.Nat.{ℕ, _+_, _^_, _≤_, _<_}
 use native.Mathlib.Nat.{lt-of-lt-of-le}
 use native.Mathlib.Decide.{decLe}
 use native.Mathlib.Omega.{arith}
-use lib.Dec.{eqb}
+use lib.IntN.{ℤ}
+use lib.Dec.{ltb, eqb}
 use lib.ListN.{getD}
 use lib.Pow.{pow-mono}
-use borrow.Author.Tests.{ne-eqb}
+use borrow.Author.Tests.{ltb-true, ltb-false, eqb-true, eq-eqb, ne-eqb}
 use Rattle.exact.specs.Choice.{if_then_else_}
 use Rattle.exact.specs.declared.Question.{Question}
 use Rattle.exact.proofs.Bridge.{by-test}
-use Rattle.model.specs.Job.{Carriageway}
+use Rattle.model.specs.Job.{Job, Live, noTraffic, normal, overload}
 use Rattle.model.specs.Line.{HN, HO}
-use Rattle.model.specs.Lanes.{lanesOf, bit}
-use Rattle.model.specs.Answered.{entryBit, setOf}
-use Rattle.model.specs.Placements.{entryIs}
+use Rattle.model.specs.Lanes.{bit, lanes, sumUnit, unit}
+use Rattle.model.specs.Traffic.{laneEffect, bestSum, effectOf, trafficValue}
+use Rattle.model.specs.Arrangements.{OverloadLanes}
+use Rattle.model.specs.Answered.{entryBit, setOf, laneAt}
+use Rattle.model.specs.Placements.{EntryRight, entryIs}
+use Rattle.model.specs.declared.Entry.{Entry}
+use Rattle.model.specs.declared.Entry.the-variants.{Unloaded, Hn, Ho}
 use Rattle.model.specs.declared.Lane.{Lane}
-use Rattle.model.proofs.Sets.{setNumber, set-number}
+use Rattle.model.specs.declared.Extreme.{Extreme}
+use Rattle.model.proofs.Sets.{setNumber, set-number, number-cong, number-with}
+use Rattle.model.proofs.Attained.{placed-lanes, placed-sum}
 use Rattle.lanes.specs.Entries.{noElement}
-use Rattle.lanes.specs.Traffic.{laneBy, LanesPlaced, BestElement, EntryBest, PlacedRight}
+use Rattle.lanes.specs.Sets.{bestFor}
+use Rattle.lanes.specs.Loadings.{laneBy, LanesPlaced, ElementRight, LoadingOf, TrafficPlaced}
+use Rattle.lanes.specs.declared.centres.Across.{Across}
 use Rattle.lanes.specs.declared.entries.Chosen.{Chosen}
-use Rattle.lanes.specs.declared.traffic.Effects.{Effects}
-use Rattle.lanes.proofs.Powers.{bit-le}
-use Rattle.lanes.proofs.SetNumbers.{number-cong, set-of, number-with}
+use Rattle.lanes.specs.declared.sets.Loading.{Loading}
+use Rattle.lanes.proofs.SetNumbers.{set-of, bit-past}
 
+-- ---- a lane by its two tests
 loaded-by : (hn over : Chosen) (a b : Bool) → entryBit (laneBy hn over a b .entry) ≡ (if (if a then true else b) then 1 else 0)
 loaded-by hn over true b = refl
 loaded-by hn over false true = refl
@@ -42,63 +52,95 @@ ho-by hn over true b = refl
 ho-by hn over false true = refl
 ho-by hn over false false = refl
 
-module _ (set o n : ℕ) (hn over : List Chosen) (lanes : List Lane) (small : set < 2 ^ n) (few : n ≤ 5) (placed : LanesPlaced set o n hn over lanes) where
-  -- the set has no lane past the last
-  pub bit-past : (i : ℕ) → n ≤ i → bit set i ≡ false
-  bit-past i h = by-test (bit set i) (λ t. t ≡ false) (λ e. let b = bit-le set i e in let p = pow-mono {i = n} {j = i} h in absurd (omega arith)) (λ _. refl)
+-- a loaded entry is not unloaded
+abbrev IsUnloaded : Entry → Type 0
+IsUnloaded Unloaded = Unit {0}
+IsUnloaded (Hn sense) = ⊥
+IsUnloaded (Ho sense) = ⊥
 
+idle-by : (hn over : Chosen) (a b : Bool) → laneBy hn over a b .entry ≡ Unloaded → laneBy hn over a b .centre ≡ 0
+idle-by hn over true b e = absurd (subst IsUnloaded (sym e) tt)
+idle-by hn over false true e = absurd (subst IsUnloaded (sym e) tt)
+idle-by hn over false false e = refl
+
+-- ---- the number of the loaded lanes
+module _ (set o n : ℕ) (hn over : List Chosen) (all : List Lane) (small : set < 2 ^ n) (few : n ≤ 5) (apart : bit set o ≡ false) (lane : (o < n) ⊎ (o ≡ 5)) (placed : LanesPlaced set o n hn over all) where
   -- lane i is loaded
   abbrev loaded : ℕ → Bool
   loaded i = if eqb i o then true else bit set i
 
-  number-is : ((i : ℕ) → n ≤ i → i < 5 → eqb i o ≡ false) → setOf lanes ≡ setNumber 5 loaded
-  number-is outside =
+  outside : (i : ℕ) → n ≤ i → i < 5 → eqb i o ≡ false
+  outside i h l = ne-eqb i o (λ e. elim lane [ inl p ↦ omega arith | inr p ↦ omega arith ])
+
+  number-is : setOf all ≡ setNumber 5 loaded
+  number-is =
       let five = placed .five in
-      set-of lanes loaded (λ i h. elim (decLe n i) [
-        | yes l ↦ ap (λ (x : Lane). entryBit (x .entry)) (placed .past i l) ∙ sym (ap₂ (λ (a b : Bool). if (if a then true else b) then 1 else 0) (outside i l (omega arith)) (bit-past i l))
+      set-of all loaded (λ i h. elim (decLe n i) [
+        | yes l ↦ ap (λ (x : Lane). entryBit (x .entry)) (placed .past i l) ∙ sym (ap₂ (λ (a b : Bool). if (if a then true else b) then 1 else 0) (outside i l (omega arith)) (bit-past n set i small l))
         | no l ↦ ap (λ (x : Lane). entryBit (x .entry)) (placed .each i (omega arith)) ∙ loaded-by (getD hn i noElement) (getD over i noElement) (eqb i o) (bit set i)
       ])
       ∙ ap (λ (m : ℕ). setNumber m loaded) five
 
-  below : set < 2 ^ 5
-  below = lt-of-lt-of-le small (pow-mono {i = n} {j = 5} few)
+  whole : setNumber 5 (bit set) ≡ set
+  whole = set-number 5 set (lt-of-lt-of-le small (pow-mono {i = n} {j = 5} few))
 
-  -- without an HO lane it is the set
-  pub normal-set : o ≡ 5 → set ≡ setOf lanes
-  normal-set e =
-      sym
-      (number-is (λ i h l. ne-eqb i o (λ f. omega arith))
-      ∙ number-cong 5 loaded (bit set) (λ i l. ap (λ (t : Bool). if t then true else bit set i) (ne-eqb i o (λ f. omega arith)))
-      ∙ set-number 5 set below)
+  pub loaded-set : setOf all ≡ (if ltb o 5 then set + 2 ^ o else set)
+  loaded-set =
+      number-is
+      ∙ by-test (ltb o 5) (λ t. setNumber 5 loaded ≡ (if t then set + 2 ^ o else set))
+      (λ t. number-with 5 o (bit set) (ltb-true o 5 t) apart ∙ ap (λ (m : ℕ). m + 2 ^ o) whole)
+      (λ t. number-cong 5 loaded (bit set) (λ i l. ap (λ (t : Bool). if t then true else bit set i) (ne-eqb i o (λ e. let h = ltb-false o 5 t in omega arith))) ∙ whole)
 
-  -- and with one, its bit more
-  pub overload-set : o < n → bit set o ≡ false → set + 2 ^ o ≡ setOf lanes
-  overload-set h e =
-      sym
-      (number-is (λ i l m. ne-eqb i o (λ f. omega arith))
-      ∙ number-with 5 o (bit set) (omega arith) e
-      ∙ ap (λ (m : ℕ). m + 2 ^ o) (set-number 5 set below))
+-- ---- in a job
+-- a live kind's best sum is the job's
+best-is : (q : Question) (job : Job) (live : Live) → bestFor q live (lanes job) (laneEffect q job HN) (laneEffect q job HO) ≡ bestSum q job live
+unfolding bestSum
+best-is q job noTraffic = refl
+best-is q job normal = refl
+best-is q job overload = refl
 
--- each lane's entry and the set's number
-pub placed-right : (q : Question) (deck : Carriageway) (eHn eHo : Effects) (set o number : ℕ) (hn over : List Chosen) (lanes : List Lane) → set < 2 ^ lanesOf deck → LanesPlaced set o (lanesOf deck) hn over lanes →
-    ((i : ℕ) → eqb i o ≡ true → bit set i ≡ false) →
-    ((i : ℕ) → i < lanesOf deck → BestElement q deck eHn i (getD hn i noElement .sense) (getD hn i noElement .centre)) →
-    ((i : ℕ) → i < lanesOf deck → eqb i o ≡ true → BestElement q deck eHo i (getD over i noElement .sense) (getD over i noElement .centre)) →
-    number ≡ setOf lanes → PlacedRight q deck eHn eHo set (λ i. eqb i o) (record { set = number; lanes = lanes })
-placed-right q deck eHn eHo set o number hn over lanes small placed apart best-hn best-ho is = record {
-  small = small;
-  underHn = λ i h. ap (λ (x : Lane). entryIs HN (x .entry)) (placed .each i h) ∙ hn-by (getD hn i noElement) (getD over i noElement) (eqb i o) (bit set i) (apart i);
-  underHo = λ i h. ap (λ (x : Lane). entryIs HO (x .entry)) (placed .each i h) ∙ ho-by (getD hn i noElement) (getD over i noElement) (eqb i o) (bit set i);
-  entries = λ i. elim (decLe (lanesOf deck) i) [
-    | yes l ↦ subst (λ (x : Lane). EntryBest q deck eHn eHo i (x .entry) (x .centre)) (sym (placed .past i l)) refl
-    | no l ↦ subst (λ (x : Lane). EntryBest q deck eHn eHo i (x .entry) (x .centre)) (sym (placed .each i (omega arith))) (entry-by i (getD hn i noElement) (getD over i noElement) (eqb i o) (bit set i) (best-hn i (omega arith)) (best-ho i (omega arith)))
-  ];
-  reported = is;
-  past = placed .past;
-}
-  where
-    entry-by : (i : ℕ) (hn over : Chosen) (a b : Bool) → BestElement q deck eHn i (hn .sense) (hn .centre) → (a ≡ true → BestElement q deck eHo i (over .sense) (over .centre)) →
-        EntryBest q deck eHn eHo i (laneBy hn over a b .entry) (laneBy hn over a b .centre)
-    entry-by i hn over true b h k = k refl
-    entry-by i hn over false true h k = h
-    entry-by i hn over false false h k = refl
+module _ (q : Question) (job : Job) (live : Live) (across : Across) (dynamic : ℕ) (best : Loading) (hn ho : List Chosen) (f : LoadingOf q job live across dynamic best hn ho) (few : across .lanes ≤ 5)
+    (x : Extreme) (value : x .value ≡ effectOf q dynamic (best .value) (across .unit)) (set : x .placement .set ≡ (if ltb (best .lane) 5 then best .set + 2 ^ best .lane else best .set))
+    (as-found : LanesPlaced (best .set) (best .lane) (across .lanes) hn ho (x .placement .lanes)) where
+  abbrev o : ℕ
+  o = best .lane
+
+  placed : LanesPlaced (best .set) o (lanes job) hn ho (x .placement .lanes)
+  placed = subst (λ (n : ℕ). LanesPlaced (best .set) o n hn ho (x .placement .lanes)) (f .spanned .lanes) as-found
+
+  under-hn : (i : ℕ) → i < lanes job → entryIs HN (laneAt (x .placement) i .entry) ≡ bit (best .set) i
+  under-hn i h =
+      ap (λ (y : Lane). entryIs HN (y .entry)) (placed .each i h)
+      ∙ hn-by (getD hn i noElement) (getD ho i noElement) (eqb i o) (bit (best .set) i) (λ e. ap (bit (best .set)) (eqb-true i o e) ∙ f .loading .apart)
+
+  under-ho : (i : ℕ) → i < lanes job → entryIs HO (laneAt (x .placement) i .entry) ≡ eqb i o
+  under-ho i h = ap (λ (y : Lane). entryIs HO (y .entry)) (placed .each i h) ∙ ho-by (getD hn i noElement) (getD ho i noElement) (eqb i o) (bit (best .set) i)
+
+  entry-by : (i : ℕ) (c d : Chosen) (a b : Bool) → ElementRight q job HN i c → (a ≡ true → ElementRight q job HO i d) → EntryRight q job i (laneBy c d a b .entry) (laneBy c d a b .centre)
+  entry-by i c d true b h k = k refl .at
+  entry-by i c d false true h k = h .at
+  entry-by i c d false false h k = tt
+
+  pub traffic-placed : TrafficPlaced q job live x
+  unfolding trafficValue
+  traffic-placed =
+      let top = f .loading .best ∙ best-is q job live in
+      record {
+        value =
+            value
+            ∙ ap (λ (d : ℕ). effectOf q d (best .value) (across .unit)) (f .factor)
+            ∙ ap₂ (λ (z : ℤ) (d : ℕ). effectOf q (job .dynamic q) z d) top (f .spanned .unit);
+        entries = λ i h.
+            subst (λ (y : Lane). EntryRight q job i (y .entry) (y .centre)) (sym (placed .each i h))
+            (entry-by i (getD hn i noElement) (getD ho i noElement) (eqb i o) (bit (best .set) i) (f .underHn i h) (λ e. f .underHo i h (eqb-true i o e)));
+        kinds = subst (OverloadLanes live) (sym (placed-lanes q job (x .placement) (best .set) (λ i. eqb i o) (f .loading .small) under-hn under-ho)) (f .loading .kinds);
+        sum = placed-sum q job (x .placement) (best .set) (λ i. eqb i o) (f .loading .small) under-hn under-ho ∙ sym (f .loading .value) ∙ top;
+        set = set ∙ sym (loaded-set (best .set) o (lanes job) hn ho (x .placement .lanes) (f .loading .small) (subst (λ (n : ℕ). n ≤ 5) (f .spanned .lanes) few) (f .loading .apart) (f .loading .lane) placed);
+        onDeck = λ i h. ap (λ (y : Lane). y .entry) (placed .past i h);
+        idle = λ i e. elim (decLe (lanes job) i) [
+          | yes l ↦ ap (λ (y : Lane). y .centre) (placed .past i l)
+          | no l ↦
+              let is = placed .each i (omega arith) in
+              ap (λ (y : Lane). y .centre) is ∙ idle-by (getD hn i noElement) (getD ho i noElement) (eqb i o) (bit (best .set) i) (sym (ap (λ (y : Lane). y .entry) is) ∙ e)
+        ];
+      }

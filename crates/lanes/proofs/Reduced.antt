@@ -1,22 +1,10 @@
 -- How far from zero the sum of a set is, at its r.
-use Prim.Native.Nat.{ℕ, zero, suc, _+_, _*_, _≤_}
+use Prim.Native.Nat.{ℕ, zero, suc, _*_, _≤_}
 use native.Mathlib.Omega.{arith}
-use mathlib.Core.Bool.{Bool, true, false}
 use lib.IntN.{ℤ, _*ℤ_}
-use Rattle.exact.specs.Choice.{if_then_else_}
 use Rattle.exact.specs.Bounds.{Within}
-use Rattle.exact.specs.Ranges.{countTo}
 use Rattle.exact.proofs.Bounds.{within-le, within-pos, within-mul}
 use Rattle.model.specs.Lanes.{reduction}
-
--- at most as many as there are
-pub count-le : (n : ℕ) (test : ℕ → Bool) → countTo n test ≤ n
-count-le zero test = omega arith
-count-le (suc n) test = one (test n) (countTo n test) (count-le n test)
-  where
-    one : (t : Bool) (m : ℕ) → m ≤ n → m + (if t then 1 else 0) ≤ suc n
-    one true m h = omega arith
-    one false m h = omega arith
 
 -- r times m is at most 60
 pub reduced-near : (m : ℕ) (z : ℤ) → m ≤ 5 → Within (21500000000000 * m) z → Within 1290000000000000 (reduction m *ℤ z)

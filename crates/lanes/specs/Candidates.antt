@@ -19,7 +19,7 @@ abbrev pub betterCentre : Question → List ℕ → (d : ℕ) → (best : Centre
 betterCentre q s d best at = if beats q (ordinateAt s d at) (best .ordinate) then record { ordinate = ordinateAt s d at; at = at } else best
 
 -- a centre from lo to hi with the ordinate there
-pub record Stands (s : List ℕ) (d lo hi : ℕ) (c : Centre) : Type 0 where
+pub record CentreStands (s : List ℕ) (d lo hi : ℕ) (c : Centre) : Type 0 where
   pub from : lo ≤ c .at
   pub to : c .at ≤ hi
   pub here : ordinateAt s d (c .at) ≡ c .ordinate
@@ -27,7 +27,7 @@ pub record Stands (s : List ℕ) (d lo hi : ℕ) (c : Centre) : Type 0 where
 
 -- no better one stands at lo, at hi, or at a transverse ordinate between, numbered below m
 pub record BestBefore (q : Question) (s : List ℕ) (d lo hi m : ℕ) (c : Centre) : Type 0 where
-  pub stands : Stands s d lo hi c
+  pub stands : CentreStands s d lo hi c
   pub atLo : NoBetter q (ordinateAt s d lo) (c .ordinate)
   pub atHi : NoBetter q (ordinateAt s d hi) (c .ordinate)
   pub between : (k : ℕ) → k < m → lo ≤ d * k → d * k ≤ hi → NoBetter q (ordinateAt s d (d * k)) (c .ordinate)

@@ -1,6 +1,6 @@
-pub mod Fits
+pub mod Transverse
 pub mod Spans
 pub mod Candidates
 pub mod Entries
 pub mod Sets
-pub mod Traffic
+pub mod Loadings

@@ -5,9 +5,10 @@ ghost use lib.ListN.{length, getD};
 ghost use Rattle.exact.specs.Bounds.{Within};
 ghost use Rattle.model.specs.Lanes.{laneCount};
 ghost use Rattle.model.specs.Decode.{carriageway};
-ghost use Rattle.lanes.specs.Fits.{AcrossFits, OrdinatesTo};
-ghost use Rattle.lanes.specs.Spans.{SpanRight, noSpan};
+ghost use Rattle.lanes.specs.Transverse.{TransverseFits, OrdinatesTo};
+ghost use Rattle.lanes.specs.Spans.{SpanRight, noSpan, AcrossRight};
 ghost use Rattle.lanes.specs.Candidates.{ordinateAt, betterCentre, BestBefore};
+use crate::count;
 use exact::Question;
 
 // A centre in n-ths of a cm and the transverse ordinate there, in thousandths times n g.
@@ -67,9 +68,9 @@ pub struct Span {
     pub least: Centre,
 }
 
-// Lane i's, of n lanes.
+// The greatest and least ordinate of lane i of n.
 fn lane_span(across: &[u8], width: usize, n: usize, g: usize, i: usize) -> Span
-    requires { ⌜ AcrossFits (now across) width g ⌝ }
+    requires { ⌜ TransverseFits (now across) width g ⌝ }
     requires { ⌜ n ≡ laneCount width ⌝ }
     requires { ⌜ i < n ⌝ }
     ensures { λ r. ⌜ SpanRight (carriageway (now (across .entry)) width g) i r ⌝ }
@@ -81,9 +82,9 @@ fn lane_span(across: &[u8], width: usize, n: usize, g: usize, i: usize) -> Span
     Span { greatest, least }
 }
 
-// All n lanes', and zeros to five.
-pub fn spans(across: &[u8], width: usize, n: usize, g: usize) -> [Span; 5]
-    requires { ⌜ AcrossFits (now across) width g ⌝ }
+// The greatest and least ordinate of each of n lanes, and zeros to five.
+fn spans(across: &[u8], width: usize, n: usize, g: usize) -> [Span; 5]
+    requires { ⌜ TransverseFits (now across) width g ⌝ }
     requires { ⌜ n ≡ laneCount width ⌝ }
     ensures { λ r. ⌜ length r ≡ 5 ⌝ }
     ensures { λ r. ⌜ ((i : ℕ) → i < n → SpanRight (carriageway (now (across .entry)) width g) i (getD r i noSpan)) ⌝ }
@@ -100,4 +101,25 @@ pub fn spans(across: &[u8], width: usize, n: usize, g: usize) -> [Span; 5]
         all[i] = s;
     }
     all
+}
+
+// What lies across the line: each lane's span, the number of lanes, and n g, which their ordinates are times.
+pub struct Across {
+    pub spans: [Span; 5],
+    pub lanes: usize,
+    pub unit: usize,
+}
+
+// Of a carriageway, by its transverse section, its width and the spacing g.
+pub fn across_of(section: &[u8], width: usize, g: usize) -> Across
+    requires { ⌜ TransverseFits (now section) width g ⌝ }
+    ensures { λ r. ⌜ AcrossRight (carriageway (now (section .entry)) width g) r ⌝ }
+{
+    let n = count::lane_count(width);
+    let spans = spans(section, width, n, g);
+    Across {
+        spans,
+        lanes: n,
+        unit: n * g,
+    }
 }

@@ -4,7 +4,7 @@ ghost use Prim.Native.Nat.{_≤_};
 ghost use Rattle.model.specs.Lanes.{laneCount};
 
 // n for a carriageway so many cm wide.
-pub fn lane_count(width: usize) -> usize
+pub(crate) fn lane_count(width: usize) -> usize
     requires { ⌜ (300 ≤ width) × (width ≤ 2079) ⌝ }
     ensures { λ r. ⌜ (r ≡ laneCount width) × ((1 ≤ r) × (r ≤ 5)) ⌝ }
 {

@@ -8,8 +8,8 @@ ghost use Prim.Native.Nat.{ℕ, _≤_, _<_};
 ghost use lib.ListN.{getD};
 ghost use Rattle.exact.specs.Bounds.{Within};
 ghost use Rattle.exact.specs.Questions.{other};
-ghost use Rattle.lanes.specs.Spans.{noSpan};
-ghost use Rattle.lanes.specs.Entries.{bestOf, SpanNear, ChosenRight, AllChosen};
+ghost use Rattle.lanes.specs.Spans.{noSpan, SpanFits};
+ghost use Rattle.lanes.specs.Entries.{bestOf, ChosenRight, AllChosen};
 
 // A lane's best element: its effect, its sense and its centre.
 pub struct Chosen {
@@ -28,7 +28,7 @@ fn best_of(q: Question, span: Span) -> Centre
     }
 }
 
-// The centre with the other question's.
+// The centre with the other question's best ordinate.
 fn worst_of(q: Question, span: Span) -> Centre
     ensures { λ r. ⌜ r ≡ bestOf (other q) span ⌝ }
 {
@@ -38,9 +38,9 @@ fn worst_of(q: Question, span: Span) -> Centre
     }
 }
 
-// Of a lane with this span, under these line effects.
+// The best element of a lane with this span, under these line effects.
 fn choose(q: Question, span: Span, raising: i64, lowering: i64) -> Chosen
-    requires { ⌜ SpanNear span ⌝ }
+    requires { ⌜ SpanFits span ⌝ }
     requires { ⌜ Within 102000000 raising × Within 102000000 lowering ⌝ }
     ensures { λ r. ⌜ ChosenRight q span raising lowering r ⌝ }
 {
@@ -62,16 +62,22 @@ fn choose(q: Question, span: Span, raising: i64, lowering: i64) -> Chosen
     }
 }
 
-// Of all lanes.
+// The best element of each lane, and its effect by itself.
+pub struct Elements {
+    pub all: [Chosen; 5],
+    pub values: [i64; 5],
+}
+
+// Those of n lanes under these line effects.
 pub(crate) fn choose_all(
     q: Question,
     spans: [Span; 5],
     n: usize,
     raising: i64,
     lowering: i64,
-) -> [Chosen; 5]
+) -> Elements
     requires { ⌜ (0 < n) × (n ≤ 5) ⌝ }
-    requires { ⌜ ((i : ℕ) → i < n → SpanNear (getD spans i noSpan)) ⌝ }
+    requires { ⌜ ((i : ℕ) → i < n → SpanFits (getD spans i noSpan)) ⌝ }
     requires { ⌜ Within 102000000 raising × Within 102000000 lowering ⌝ }
     ensures { λ r. ⌜ AllChosen q spans n raising lowering r ⌝ }
 {
@@ -81,10 +87,13 @@ pub(crate) fn choose_all(
         centre: 0,
     };
     let mut all = [none; 5];
+    let mut values = [0i64; 5];
     for i in 0..n {
         let span = spans[i];
         let c = choose(q, span, raising, lowering);
         all[i] = c;
+        let v = c.value;
+        values[i] = v;
     }
-    all
+    Elements { all, values }
 }

@@ -1,7 +1,6 @@
-// Lanes: their number and limits, the transverse ordinate at a centre, the best entry of each, sets of lanes, traffic values.
+// Lanes: their number and limits, the transverse ordinate at a centre, the best element of each, the best sets of lanes, traffic values.
 pub mod centres;
-pub mod count;
-pub mod dynamic;
+mod count;
 pub mod entries;
 pub mod sets;
 pub mod traffic;

@@ -1,44 +1,42 @@
-// Sets of lanes as numbers, a bit a lane, and the best of them.
-use crate::entries::Chosen;
+// The best set of lanes, grown by the best lane that is left: no set of as many lanes beats it.
 use exact::Question;
 ghost use mathlib.Core.Path.{_≡_};
-ghost use Prim.Native.Nat.{ℕ, _+_, _-_, _≤_, _<_, _^_};
-ghost use lib.IntN.{pos};
+ghost use Prim.Native.Nat.{ℕ, _+_, _≤_, _<_, _^_};
 ghost use lib.Count.{ones};
+ghost use lib.Dec.{ltb};
+ghost use lib.IntN.{ℤ};
 ghost use Rattle.exact.specs.Bounds.{Within};
 ghost use Rattle.exact.specs.Choice.{if_then_else_};
-ghost use Rattle.exact.specs.Questions.{beats as beatsFor, extreme};
-ghost use Rattle.model.specs.Lanes.{bit, without as withoutLane, reduction as reductionOf};
-ghost use Rattle.model.specs.Traffic.{setSum};
-ghost use Rattle.lanes.specs.Sets.{valueOf, sumAt, SumsNear, SumsRight, overloadSum, BesideRight, OverloadRight};
-
-const POWERS: [u32; 6] = [1, 2, 4, 8, 16, 32];
+ghost use Rattle.exact.specs.Questions.{beats as beatsFor};
+ghost use Rattle.model.specs.Job.{normal, overload};
+ghost use Rattle.model.specs.Lanes.{bit, reduction as reductionOf};
+ghost use Rattle.lanes.specs.Sets.{valueAt, isFree, ValuesFit, BestFree, added, Grown, Reaches, BestBeside, OverloadAt, LoadingRight};
 
 // Lane i's bit.
 pub(crate) fn has(set: u32, i: usize) -> bool
-    requires { ⌜ i < 6 ⌝ }
+    requires { ⌜ i < 32 ⌝ }
     ensures { λ r. ⌜ r ≡ bit set i ⌝ }
 {
-    set / POWERS[i] % 2 == 1
-}
-
-// The set without lane i.
-fn without(i: usize, set: u32) -> u32
-    requires { ⌜ i < 6 ⌝ }
-    ensures { λ r. ⌜ (r ≡ withoutLane i set) × (r ≤ set) ⌝ }
-{
-    if has(set, i) {
-        return set - POWERS[i];
-    }
-    set
+    (set >> (i as u32)) % 2 == 1
 }
 
 // The set with lane i, which it lacks.
-pub(crate) fn with(i: usize, set: u32) -> u32
-    requires { ⌜ (i < 6) × (set < 64) ⌝ }
+fn with(i: usize, set: u32) -> u32
+    requires { ⌜ (i < 5) × (set < 32) ⌝ }
     ensures { λ r. ⌜ r ≡ set + 2 ^ i ⌝ }
 {
-    set + POWERS[i]
+    set + (1u32 << (i as u32))
+}
+
+// The set of HN lanes with the HO lane; lane 5 is none.
+pub(crate) fn loaded(set: u32, lane: usize) -> u32
+    requires { ⌜ set < 32 ⌝ }
+    ensures { λ r. ⌜ r ≡ (if ltb lane 5 then set + 2 ^ lane else set) ⌝ }
+{
+    if lane < 5 {
+        return with(lane, set);
+    }
+    set
 }
 
 // r in twentieths: the ones of the set choose.
@@ -57,76 +55,145 @@ fn reduction(set: u32) -> i64
     }
 }
 
-// A lane's value where the set has it.
-fn counted(set: u32, i: usize, c: Chosen) -> i64
-    requires { ⌜ i < 6 ⌝ }
-    ensures { λ r. ⌜ r ≡ (if bit set i then c .value else pos 0) ⌝ }
+// Whether lane i is neither in the set nor lane o.
+fn free(set: u32, o: usize, i: usize) -> bool
+    requires { ⌜ i < 32 ⌝ }
+    ensures { λ r. ⌜ r ≡ isFree set o i ⌝ }
 {
-    if has(set, i) {
-        return c.value;
+    if i == o {
+        return false;
     }
-    0
+    !has(set, i)
 }
 
-// The HN lanes of a set at its r.
-fn set_sum(hn: [Chosen; 5], n: usize, set: u32) -> i64
-    requires { ⌜ (0 < n) × (n ≤ 5) × (set < 2 ^ n) ⌝ }
-    requires { ⌜ ((i : ℕ) → i < n → Within 21500000000000 (valueOf hn i)) ⌝ }
-    ensures { λ r. ⌜ (r ≡ setSum n (valueOf hn) set) × Within 1290000000000000 r ⌝ }
-{
-    let mut sum: i64 = 0;
-    for i in 0..n {
-        let c = hn[i];
-        sum += counted(set, i, c);
-    }
-    reduction(set) * sum
+// A lane and its value.
+struct Pick {
+    value: i64,
+    at: usize,
 }
 
-// Of every set of n lanes.
-pub(crate) fn set_sums(hn: [Chosen; 5], n: usize) -> [i64; 32]
-    requires { ⌜ (0 < n) × (n ≤ 5) ⌝ }
-    requires { ⌜ ((i : ℕ) → i < n → Within 21500000000000 (valueOf hn i)) ⌝ }
-    ensures { λ r. ⌜ SumsRight n (valueOf hn) r ⌝ }
+// A lane that is left and no worse than the best so far, or that.
+fn consider(q: Question, best: Pick, left: bool, value: i64, at: usize) -> Pick
+    ensures { λ r. ⌜ r ≡ (if left then (if beatsFor q (best .value) value then best else record { value = value; at = at }) else best) ⌝ }
 {
-    let mut sums = [0i64; 32];
-    for set in 0..POWERS[n] {
-        sums[set as usize] = set_sum(hn, n, set);
-    }
-    sums
-}
-
-// The better of two sets, the first at a tie.
-fn better_set(q: Question, sums: [i64; 32], a: u32, b: u32) -> u32
-    requires { ⌜ (a < 32) × (b < 32) ⌝ }
-    ensures { λ r. ⌜ r ≡ (if beatsFor q (sumAt sums b) (sumAt sums a) then b else a) ⌝ }
-{
-    if exact::beats(q, sums[b as usize], sums[a as usize]) {
-        return b;
-    }
-    a
-}
-
-// The best set of lanes.
-pub(crate) fn best_normal(q: Question, sums: [i64; 32], n: usize) -> u32
-    requires { ⌜ n ≤ 5 ⌝ }
-    ensures { λ r. ⌜ (r < 2 ^ n) × (sumAt sums r ≡ extreme q (2 ^ n - 1) (sumAt sums)) ⌝ }
-{
-    let mut best: u32 = 0;
-    for set in 1..POWERS[n] {
-        best = better_set(q, sums, best, set);
+    if left {
+        if exact::beats(q, best.value, value) {
+            return best;
+        }
+        return Pick { value, at };
     }
     best
 }
 
-// An overload: the HO lane, the set of the HN lanes, and their sum.
-pub struct Overload {
+// The best of n lanes that are left; lane n is none.
+fn next(q: Question, values: [i64; 5], n: usize, o: usize, set: u32) -> Pick
+    requires { ⌜ (n ≤ 5) × ValuesFit q 21500000000000 n (valueAt values) ⌝ }
+    ensures { λ r. ⌜ BestFree q n (valueAt values) set o n r ⌝ }
+{
+    let mut best = Pick { value: 0, at: n };
+    for i in 0..n {
+        best = consider(q, best, free(set, o, i), values[i], i);
+    }
+    best
+}
+
+// A set of lanes with the sum of their values, and the best of the sets on the way to it, at its r.
+pub struct Growing {
+    pub set: u32,
+    pub sum: i64,
+    pub best: i64,
+    pub chosen: u32,
+}
+
+// A lane with its value, which the set lacks, added.
+fn add(q: Question, s: Growing, lane: usize, value: i64) -> Growing
+    requires { ⌜ (lane < 5) × (s .set < 32) × Within 107500000000000 (s .sum) × Within 21500000000000 value ⌝ }
+    ensures { λ r. ⌜ r ≡ added q s lane value ⌝ }
+{
+    let set = with(lane, s.set);
+    let sum = s.sum + value;
+    let best = reduction(set) * sum;
+    if exact::beats(q, best, s.best) {
+        return Growing {
+            set,
+            sum,
+            best,
+            chosen: set,
+        };
+    }
+    Growing {
+        set,
+        sum,
+        best: s.best,
+        chosen: s.chosen,
+    }
+}
+
+// The best lane that is left, added where there is one.
+fn grow(q: Question, values: [i64; 5], n: usize, o: usize, s: Growing) -> Growing
+    requires { ⌜ (n ≤ 5) × ValuesFit q 21500000000000 n (valueAt values) × Grown q n (valueAt values) o s ⌝ }
+    ensures { λ r. ⌜ Grown q n (valueAt values) o r × ((m : ℕ) → Reaches n o m (s .set) → Reaches n o (m + 1) (r .set)) ⌝ }
+{
+    let lane = next(q, values, n, o, s.set);
+    if lane.at == n {
+        return s;
+    }
+    add(q, s, lane.at, lane.value)
+}
+
+// The best set of n lanes without lane o.
+fn beside(q: Question, values: [i64; 5], n: usize, o: usize) -> Growing
+    requires { ⌜ (n ≤ 5) × ValuesFit q 21500000000000 n (valueAt values) ⌝ }
+    ensures { λ r. ⌜ BestBeside q n (valueAt values) o n (r .best) (r .chosen) ⌝ }
+{
+    let mut s = Growing {
+        set: 0,
+        sum: 0,
+        best: 0,
+        chosen: 0,
+    };
+    for m in 0..n {
+        s = grow(q, values, n, o, s);
+    }
+    s
+}
+
+// The HO lane, 5 where there is none, the set of the HN lanes, and their sum.
+pub struct Loading {
     pub value: i64,
     pub lane: usize,
     pub set: u32,
 }
 
+// The best set of n lanes.
+pub(crate) fn best_normal(q: Question, hn: [i64; 5], n: usize) -> Loading
+    requires { ⌜ (n ≤ 5) × ValuesFit q 21500000000000 n (valueAt hn) ⌝ }
+    ensures { λ r. ⌜ ((ho : ℕ → ℤ) → LoadingRight q normal n (valueAt hn) ho r) ⌝ }
+{
+    let s = beside(q, hn, n, 5);
+    Loading {
+        value: s.best,
+        lane: 5,
+        set: s.chosen,
+    }
+}
+
+// HO of this value in a lane, at the r of one lane, and the best set beside it.
+fn overload_at(q: Question, hn: [i64; 5], n: usize, ho: i64, lane: usize) -> Loading
+    requires { ⌜ (n ≤ 5) × ValuesFit q 21500000000000 n (valueAt hn) × Within 25500000000000 ho ⌝ }
+    ensures { λ r. ⌜ OverloadAt q n (valueAt hn) ho lane r ⌝ }
+{
+    let s = beside(q, hn, n, lane);
+    let value = reduction(1) * ho + s.best;
+    Loading {
+        value,
+        lane,
+        set: s.chosen,
+    }
+}
+
 // The better of two, the first at a tie.
-fn better(q: Question, a: Overload, b: Overload) -> Overload
+fn better(q: Question, a: Loading, b: Loading) -> Loading
     ensures { λ r. ⌜ r ≡ (if beatsFor q (b .value) (a .value) then b else a) ⌝ }
 {
     if exact::beats(q, b.value, a.value) {
@@ -135,45 +202,14 @@ fn better(q: Question, a: Overload, b: Overload) -> Overload
     a
 }
 
-// HO in a lane, at the r of one lane, and the set without it.
-fn overload_of(sums: [i64; 32], ho: i64, lane: usize, set: u32) -> Overload
-    requires { ⌜ (lane < 6) × (set < 32) ⌝ }
-    requires { ⌜ SumsNear sums × Within 25500000000000 ho ⌝ }
-    ensures { λ r. ⌜ r ≡ record { value = overloadSum sums ho lane set; lane = lane; set = withoutLane lane set } ⌝ }
+// The best HO lane and set beside it.
+pub(crate) fn best_overload(q: Question, hn: [i64; 5], ho: [i64; 5], n: usize) -> Loading
+    requires { ⌜ (0 < n) × (n ≤ 5) × ValuesFit q 21500000000000 n (valueAt hn) × ((i : ℕ) → i < n → Within 25500000000000 (valueAt ho i)) ⌝ }
+    ensures { λ r. ⌜ LoadingRight q overload n (valueAt hn) (valueAt ho) r ⌝ }
 {
-    let rest = without(lane, set);
-    let value = reduction(1) * ho + sums[rest as usize];
-    Overload {
-        value,
-        lane,
-        set: rest,
-    }
-}
-
-// The best set beside an HO lane.
-fn best_beside(q: Question, sums: [i64; 32], n: usize, ho: i64, lane: usize) -> Overload
-    requires { ⌜ (n ≤ 5) × (lane < n) ⌝ }
-    requires { ⌜ SumsNear sums × Within 25500000000000 ho ⌝ }
-    ensures { λ r. ⌜ BesideRight sums n ho lane r × (r .value ≡ extreme q (2 ^ n - 1) (overloadSum sums ho lane)) ⌝ }
-{
-    let mut best = overload_of(sums, ho, lane, 0);
-    for set in 1..POWERS[n] {
-        best = better(q, best, overload_of(sums, ho, lane, set));
-    }
-    best
-}
-
-// The best HO lane and set.
-pub(crate) fn best_overload(q: Question, sums: [i64; 32], n: usize, ho: [Chosen; 5]) -> Overload
-    requires { ⌜ (0 < n) × (n ≤ 5) ⌝ }
-    requires { ⌜ SumsNear sums × ((i : ℕ) → i < n → Within 25500000000000 (valueOf ho i)) ⌝ }
-    ensures { λ r. ⌜ OverloadRight q sums n (valueOf ho) r ⌝ }
-{
-    let first = ho[0];
-    let mut best = best_beside(q, sums, n, first.value, 0);
+    let mut best = overload_at(q, hn, n, ho[0], 0);
     for lane in 1..n {
-        let c = ho[lane];
-        best = better(q, best, best_beside(q, sums, n, c.value, lane));
+        best = better(q, best, overload_at(q, hn, n, ho[lane], lane));
     }
     best
 }

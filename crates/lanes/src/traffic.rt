@@ -1,8 +1,9 @@
 // The traffic values with their placements.
-use crate::centres::Span;
+use crate::centres::Across;
 use crate::entries;
 use crate::entries::Chosen;
 use crate::sets;
+use crate::sets::Loading;
 use exact::Question;
 use model::Entry;
 use model::Extreme;
@@ -11,9 +12,11 @@ use model::Placement;
 ghost use mathlib.Core.Path.{_≡_};
 ghost use Prim.Native.Nat.{_*_, _≤_, _<_};
 ghost use Rattle.exact.specs.Bounds.{Within};
-ghost use Rattle.model.specs.Job.{Carriageway};
+ghost use Rattle.model.specs.Job.{Job, Live, normal, overload};
+ghost use Rattle.model.specs.Line.{HN, HO};
 ghost use Rattle.model.specs.Traffic.{effectOf};
-ghost use Rattle.lanes.specs.Traffic.{TrafficFits, EffectsFit, Spanned, laneOf, LanesPlaced, NormalPlaced, OverloadPlaced};
+ghost use Rattle.lanes.specs.Spans.{AcrossFits, Spanned};
+ghost use Rattle.lanes.specs.Loadings.{LineEffectsFit, effectsOf, laneOf, LanesPlaced, LoadingOf, TrafficPlaced};
 
 // Raising and lowering line effects of a kind.
 pub struct Effects {
@@ -65,7 +68,7 @@ fn placed(set: u32, ho: usize, n: usize, hn: [Chosen; 5], over: [Chosen; 5]) -> 
     lanes
 }
 
-// 3 X / 800000 rounded, of a sum times n g before the dynamic factor.
+// 3 X / 800000 rounded, of a sum times d before the dynamic factor.
 fn value(q: Question, dynamic: usize, sum: i64, d: usize) -> i64
     requires { ⌜ (1000 ≤ dynamic) × (dynamic ≤ 1300) × (10 ≤ d) × (d ≤ 250) × Within 1800000000000000 sum ⌝ }
     ensures { λ r. ⌜ (r ≡ effectOf q dynamic sum d) × Within 1000000000000 r ⌝ }
@@ -75,53 +78,52 @@ fn value(q: Question, dynamic: usize, sum: i64, d: usize) -> i64
     exact::rounded(q, x, unit)
 }
 
-// Normal: the best set of lanes under HN.
-pub fn normal(
+// A live kind's best loading as its value and placement.
+fn found(
     q: Question,
-    spans: [Span; 5],
-    n: usize,
-    g: usize,
+    across: Across,
     dynamic: usize,
-    hn: Effects,
+    best: Loading,
+    hn: [Chosen; 5],
+    ho: [Chosen; 5],
 ) -> Extreme
-    requires { ⌜ TrafficFits spans n g dynamic ⌝ }
-    requires { ⌜ EffectsFit 86000000 hn ⌝ }
-    ensures { λ r. ⌜ Within 1000000000000 (r .value) ⌝ }
-    ensures { λ r. ⌜ ((deck : Carriageway) → Spanned deck spans n g → NormalPlaced q deck dynamic hn r) ⌝ }
+    requires { ⌜ AcrossFits across × (1000 ≤ dynamic) × (dynamic ≤ 1300) × (best .set < 32) × Within 1800000000000000 (best .value) ⌝ }
+    ensures { λ r. ⌜ Within 1000000000000 (r .value) × ((job : Job) (live : Live) → LoadingOf q job live across dynamic best hn ho → TrafficPlaced q job live r) ⌝ }
 {
-    let chosen = entries::choose_all(q, spans, n, hn.raising, hn.lowering);
-    let sums = sets::set_sums(chosen, n);
-    let set = sets::best_normal(q, sums, n);
-    let lanes = placed(set, 5, n, chosen, chosen);
+    let lanes = placed(best.set, best.lane, across.lanes, hn, ho);
+    let set = sets::loaded(best.set, best.lane);
+    let value = value(q, dynamic, best.value, across.unit);
     let placement = Placement { set, lanes };
-    let value = value(q, dynamic, sums[set as usize], n * g);
     Extreme { value, placement }
 }
 
-// Overload: the best lane under HO and set of others under HN.
-pub fn overload(
-    q: Question,
-    spans: [Span; 5],
-    n: usize,
-    g: usize,
-    dynamic: usize,
-    hn: Effects,
-    ho: Effects,
-) -> Extreme
-    requires { ⌜ TrafficFits spans n g dynamic ⌝ }
-    requires { ⌜ EffectsFit 86000000 hn × EffectsFit 102000000 ho ⌝ }
-    ensures { λ r. ⌜ Within 1000000000000 (r .value) ⌝ }
-    ensures { λ r. ⌜ ((deck : Carriageway) → Spanned deck spans n g → OverloadPlaced q deck dynamic hn ho r) ⌝ }
+// Normal: the best set of lanes under HN.
+pub fn normal(q: Question, across: Across, dynamic: usize, hn: Effects) -> Extreme
+    requires { ⌜ AcrossFits across × (1000 ≤ dynamic) × (dynamic ≤ 1300) × LineEffectsFit 86000000 hn ⌝ }
+    ensures { λ r. ⌜ Within 1000000000000 (r .value) × ((job : Job) → Spanned job across → dynamic ≡ job .dynamic q → hn ≡ effectsOf job HN → TrafficPlaced q job normal r) ⌝ }
 {
-    let chosen = entries::choose_all(q, spans, n, hn.raising, hn.lowering);
-    let over = entries::choose_all(q, spans, n, ho.raising, ho.lowering);
-    let sums = sets::set_sums(chosen, n);
-    let best = sets::best_overload(q, sums, n, over);
-    let others = best.set;
-    let at = best.lane;
-    let lanes = placed(others, at, n, chosen, over);
-    let all = sets::with(at, others);
-    let placement = Placement { set: all, lanes };
-    let value = value(q, dynamic, best.value, n * g);
-    Extreme { value, placement }
+    let n = across.lanes;
+    let spans = across.spans;
+    let light = entries::choose_all(q, spans, n, hn.raising, hn.lowering);
+    let elements = light.all;
+    let values = light.values;
+    let best = sets::best_normal(q, values, n);
+    found(q, across, dynamic, best, elements, elements)
+}
+
+// Overload: the best lane under HO and set of others under HN.
+pub fn overload(q: Question, across: Across, dynamic: usize, hn: Effects, ho: Effects) -> Extreme
+    requires { ⌜ AcrossFits across × (1000 ≤ dynamic) × (dynamic ≤ 1300) × LineEffectsFit 86000000 hn × LineEffectsFit 102000000 ho ⌝ }
+    ensures { λ r. ⌜ Within 1000000000000 (r .value) × ((job : Job) → Spanned job across → dynamic ≡ job .dynamic q → hn ≡ effectsOf job HN → ho ≡ effectsOf job HO → TrafficPlaced q job overload r) ⌝ }
+{
+    let n = across.lanes;
+    let spans = across.spans;
+    let light = entries::choose_all(q, spans, n, hn.raising, hn.lowering);
+    let heavy = entries::choose_all(q, spans, n, ho.raising, ho.lowering);
+    let light_values = light.values;
+    let heavy_values = heavy.values;
+    let best = sets::best_overload(q, light_values, heavy_values, n);
+    let light_elements = light.all;
+    let heavy_elements = heavy.all;
+    found(q, across, dynamic, best, light_elements, heavy_elements)
 }

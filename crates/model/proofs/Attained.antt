@@ -2,25 +2,22 @@
 use mathlib.Core.Path.{_≡_, refl, sym, _∙_, ap, ap₂, subst}
 use mathlib.Core.Bool.{Bool, true, false, false≢true}
 use mathlib.Core.List.{List, _++_}
-use Prim.Native.Nat.{ℕ, zero, suc, _+_, _-_, _*_, _^_, _≤_, _<_}
-use native.Mathlib.Nat.{mul-pos, mul-add, mul-le-mul-left}
-use native.Mathlib.Decide.{decLe}
+use Prim.Native.Nat.{ℕ, zero, _*_, _^_, _<_}
+use native.Mathlib.Nat.{mul-pos, mul-le-mul-left}
 use native.Mathlib.Omega.{arith}
 use lib.IntN.{ℤ, pos, natAbs, _+ℤ_, _*ℤ_}
-use lib.Dec.{eqb}
 use lib.ListN.{getD, List·getD-append}
-use borrow.Author.Tests.{eq-eqb, ne-eqb}
 use Rattle.exact.specs.Choice.{if_then_else_}
 use Rattle.exact.specs.Questions.{rounded}
-use Rattle.exact.specs.Ranges.{countTo}
+use Rattle.exact.specs.Ranges.{sumTo, countTo}
 use Rattle.exact.specs.declared.Question.{Question}
 use Rattle.exact.proofs.Exact.{_⊕_, _⊗_, lit, _≐_, solve}
-use Rattle.exact.proofs.Ranges.{sum-cong, sum-scale, sum-zero, sum-one, count-cong, length-listOf, getD-listOf}
+use Rattle.exact.proofs.Ranges.{sum-cong, sum-scale, count-cong, length-listOf, getD-listOf}
 use Rattle.exact.proofs.Rounding.{rounded-scale}
 use Rattle.model.specs.Job.{InfluenceLine, Job, Live, noTraffic, normal, overload}
 use Rattle.model.specs.Line.{Kind, HN, HO, axle, bestPair, patchByte, patchBytes, uniformPart, lineEffect}
-use Rattle.model.specs.Lanes.{reduction, transverseAt, bit, CentreFits}
-use Rattle.model.specs.Traffic.{lanes, laneEffect, setSum, bestSum, effectOf, trafficValue}
+use Rattle.model.specs.Lanes.{bit, lanes, unit, ordinateIn, twentieths, CentreFits}
+use Rattle.model.specs.Traffic.{laneEffect, setSum, bestSum, effectOf, trafficValue}
 use Rattle.model.specs.Arrangements.{Element, Load, unloaded, element, Arrangement, elementLine, elementEffect, carries, loadEffect, lanesUnder, sumUnder, sumOf, arranged, OverloadLanes, Lawful}
 use Rattle.model.specs.Answered.{laneAt, positionOf, reportedElement, reportedLoad, reported, reportedEffect, PositionRight, extremeOf, countedTraffic}
 use Rattle.model.specs.Placements.{BestCentre, EntryRight, entryIs, placedLanes, placedUnder, placedSum}
@@ -29,7 +26,7 @@ use Rattle.model.specs.declared.Entry.{Entry}
 use Rattle.model.specs.declared.Entry.the-variants.{Unloaded, Hn, Ho}
 use Rattle.model.specs.declared.Placement.{Placement}
 use Rattle.model.specs.declared.Account.{Account}
-use Rattle.model.proofs.Lanes.{lane-count}
+use Rattle.model.proofs.Lanes.{unit-pos}
 use Rattle.model.proofs.Signs.{no-traffic}
 use Rattle.model.proofs.Pair.{pair-at}
 use Rattle.model.proofs.Uniform.{loaded-parts-given}
@@ -39,14 +36,14 @@ use Rattle.model.proofs.Unbeaten.{bestUnder, bestOf}
 -- ---- any arrangement
 -- one whose every lane gives the lane's best, and whose bests together are the best sum, gives the traffic value
 pub attains : (q : Question) (job : Job) (live : Live) (w : Arrangement) → zero < job .deck .g →
-    ((kind : Kind) (i : ℕ) → i < lanes job → carries kind (w i) ≡ true → loadEffect job (lanes job) (w i) ≡ pos (lanes job * lanes job) *ℤ laneEffect q job kind i) →
-    bestOf q job w ≡ bestSum q job live → arranged q job (lanes job) w ≡ trafficValue q job live
+    ((kind : Kind) (i : ℕ) → i < lanes job → carries kind (w i) ≡ true → loadEffect job i (unit job) (w i) ≡ pos (unit job * unit job) *ℤ laneEffect q job kind i) →
+    bestOf q job w ≡ bestSum q job live → arranged q job (unit job) w ≡ trafficValue q job live
 unfolding arranged trafficValue effectOf sumOf sumUnder
 attains q job live w g-pos each best =
     ap₂ (rounded q) top bottom ∙ rounded-scale q (n * n) (pos 3 *ℤ (pos y *ℤ bestSum q job live)) (800000 * (n * g)) (mul-pos n-pos n-pos) (mul-pos (omega arith) (mul-pos n-pos g-pos))
   where
     n : ℕ
-    n = lanes job
+    n = unit job
 
     g : ℕ
     g = job .deck .g
@@ -55,21 +52,21 @@ attains q job live w g-pos each best =
     y = job .dynamic q
 
     n-pos : zero < n
-    n-pos = lane-count (job .deck .width) .0
+    n-pos = unit-pos job
 
-    lane : (kind : Kind) (i : ℕ) (t : Bool) → (t ≡ true → loadEffect job n (w i) ≡ pos (n * n) *ℤ laneEffect q job kind i) →
-        (if t then loadEffect job n (w i) else pos 0) ≡ pos (n * n) *ℤ (if t then laneEffect q job kind i else pos 0)
+    lane : (kind : Kind) (i : ℕ) (t : Bool) → (t ≡ true → loadEffect job i n (w i) ≡ pos (n * n) *ℤ laneEffect q job kind i) →
+        (if t then loadEffect job i n (w i) else pos 0) ≡ pos (n * n) *ℤ (if t then laneEffect q job kind i else pos 0)
     lane kind i true h = h refl
     lane kind i false h = solve 1 (λ c. lit 0 ≐ c ⊗ lit 0) tt (pos (n * n))
 
     under : (kind : Kind) → sumUnder job n kind w ≡ pos (n * n) *ℤ bestUnder q job kind w
     under kind =
         let f : ℕ → ℤ = λ i. if carries kind (w i) then laneEffect q job kind i else pos 0 in
-        sum-cong n _ (λ i. pos (n * n) *ℤ f i) (λ i l. lane kind i (carries kind (w i)) (each kind i l)) ∙ sum-scale n (pos (n * n)) f
+        sum-cong (lanes job) _ (λ i. pos (n * n) *ℤ f i) (λ i l. lane kind i (carries kind (w i)) (each kind i l)) ∙ sum-scale (lanes job) (pos (n * n)) f
 
     top : pos 3 *ℤ (pos y *ℤ sumOf job n w) ≡ pos (n * n) *ℤ (pos 3 *ℤ (pos y *ℤ bestSum q job live))
     top =
-        let r = reduction (lanesUnder job HN w) in
+        let r = twentieths job (lanesUnder job HN w) in
         ap₂ (λ (s t : ℤ). pos 3 *ℤ (pos y *ℤ (pos 20 *ℤ s +ℤ r *ℤ t))) (under HO) (under HN)
         ∙ solve 5 (λ y c r s t. lit 3 ⊗ (y ⊗ (lit 20 ⊗ (c ⊗ s) ⊕ r ⊗ (c ⊗ t))) ≐ c ⊗ (lit 3 ⊗ (y ⊗ (lit 20 ⊗ s ⊕ r ⊗ t)))) tt (pos y) (pos (n * n)) r (bestUnder q job HO w) (bestUnder q job HN w)
         ∙ ap (λ (x : ℤ). pos (n * n) *ℤ (pos 3 *ℤ (pos y *ℤ x))) best
@@ -87,7 +84,7 @@ patch-byte line rest i h =
 
 module _ (q : Question) (job : Job) (patch rest : List ℕ) (a : Account) (bytes : patch ≡ patchBytes (job .line) ++ rest) (positions : (sense : Sense) → PositionRight (job .line) sense (positionOf a sense)) where
   abbrev n : ℕ
-  n = lanes job
+  n = unit job
 
   -- a reported element has its sense's line effect
   pub line-given : (kind : Kind) (sense : Sense) (centre : ℕ) → elementLine (job .line) n (reportedElement job patch a kind sense centre) ≡ pos (n * n) *ℤ lineEffect (job .line) kind sense
@@ -96,25 +93,21 @@ module _ (q : Question) (job : Job) (patch rest : List ℕ) (a : Account) (bytes
       let line = job .line in
       let at = positionOf a sense in
       ap₂ _+ℤ_ (loaded-parts-given line sense n (reportedElement job patch a kind sense centre) patch (λ i h. ap (λ (l : List ℕ). getD l i 0) bytes ∙ patch-byte line rest i h) (λ i j. refl))
-      (ap (λ (x : ℤ). axle kind *ℤ (pos n *ℤ x)) (pair-at line n (at .station) (at .side) (lane-count (job .deck .width) .0) ∙ ap (λ (x : ℤ). pos n *ℤ x) (positions sense .best)))
+      (ap (λ (x : ℤ). axle kind *ℤ (pos n *ℤ x)) (pair-at line n (at .station) (at .side) (unit-pos job) ∙ ap (λ (x : ℤ). pos n *ℤ x) (positions sense .best)))
       ∙ solve 4 (λ k u a m. k ⊗ k ⊗ u ⊕ a ⊗ (k ⊗ (k ⊗ m)) ≐ k ⊗ k ⊗ (u ⊕ a ⊗ m)) tt (pos n) (uniformPart line sense) (axle kind) (bestPair line sense)
 
   -- so at a best centre it gives the lane's best
-  pub element-given : (kind : Kind) (sense : Sense) (i centre : ℕ) → BestCentre q job kind sense i centre → elementEffect job n (reportedElement job patch a kind sense centre) ≡ pos (n * n) *ℤ laneEffect q job kind i
+  pub element-given : (kind : Kind) (sense : Sense) (i centre : ℕ) → BestCentre q job kind sense i centre → elementEffect job i n (reportedElement job patch a kind sense centre) ≡ pos (n * n) *ℤ laneEffect q job kind i
   unfolding elementEffect
   element-given kind sense i centre at =
-      let t = transverseAt (job .deck) n centre in
+      let t = ordinateIn job i n centre in
       ap (λ (x : ℤ). t *ℤ x) (line-given kind sense centre)
       ∙ solve 3 (λ t c l. t ⊗ (c ⊗ l) ≐ c ⊗ (t ⊗ l)) tt t (pos (n * n)) (lineEffect (job .line) kind sense)
       ∙ ap (λ (x : ℤ). pos (n * n) *ℤ x) (at .best)
 
   -- its centre keeps its distance
-  centre-fits : (kind : Kind) (sense : Sense) (i centre : ℕ) → BestCentre q job kind sense i centre → CentreFits (job .deck) i n centre
-  centre-fits kind sense i centre at =
-      let l = at .low in
-      let h = at .high in
-      let p = lane-count (job .deck .width) .0 in
-      record { fromLeft = mul-le-mul-left n l; fromRight = omega (arith, mul-add n centre (150 * n), mul-le-mul-left {m = centre + 150 * n} {n = suc i * job .deck .width} n (omega arith)) }
+  centre-fits : (kind : Kind) (sense : Sense) (i centre : ℕ) → BestCentre q job kind sense i centre → CentreFits job i n centre
+  centre-fits kind sense i centre at = record { from = mul-le-mul-left n (at .low); to = mul-le-mul-left n (at .high) }
 
   module _ (p : Placement) (entries : (i : ℕ) → i < lanes job → EntryRight q job i (laneAt p i .entry) (laneAt p i .centre)) where
     -- the reported arrangement carries what the entries say
@@ -133,15 +126,15 @@ module _ (q : Question) (job : Job) (patch rest : List ℕ) (a : Account) (bytes
     pub reported-lawful : (live : Live) → OverloadLanes live (placedLanes job HO p) → Lawful job live n (reported job patch a p)
     unfolding reported
     reported-lawful live kinds = record {
-      fine = lane-count (job .deck .width) .0;
-      kinds = subst (OverloadLanes live) (count-cong n _ _ (λ i h. sym (carries-entry HO i))) kinds;
+      fine = unit-pos job;
+      kinds = subst (OverloadLanes live) (count-cong (lanes job) _ _ (λ i h. sym (carries-entry HO i))) kinds;
       centres = λ i e h is. go i (laneAt p i .entry) (laneAt p i .centre) (entries i h) e is;
     }
       where
-        fits : (i : ℕ) (x e : Element) → element x ≡ element e → CentreFits (job .deck) i n (x .centre) → CentreFits (job .deck) i n (e .centre)
-        fits i x e is h = subst (λ (l : Load). elim l as (λ _. Type 0) [ unloaded ↦ ⊥ | element e ↦ CentreFits (job .deck) i n (e .centre) ]) is h
+        fits : (i : ℕ) (x e : Element) → element x ≡ element e → CentreFits job i n (x .centre) → CentreFits job i n (e .centre)
+        fits i x e is h = subst (λ (l : Load). elim l as (λ _. Type 0) [ unloaded ↦ ⊥ | element e ↦ CentreFits job i n (e .centre) ]) is h
 
-        go : (i : ℕ) (entry : Entry) (centre : ℕ) → EntryRight q job i entry centre → (e : Element) → reportedLoad job patch a entry centre ≡ element e → CentreFits (job .deck) i n (e .centre)
+        go : (i : ℕ) (entry : Entry) (centre : ℕ) → EntryRight q job i entry centre → (e : Element) → reportedLoad job patch a entry centre ≡ element e → CentreFits job i n (e .centre)
         go i Unloaded centre r e is = absurd (subst (λ (l : Load). elim l as (λ _. Type 0) [ unloaded ↦ Unit {0} | element e ↦ ⊥ ]) is tt)
         go i (Hn sense) centre r e is = fits i _ e is (centre-fits HN sense i centre r)
         go i (Ho sense) centre r e is = fits i _ e is (centre-fits HO sense i centre r)
@@ -151,60 +144,32 @@ module _ (q : Question) (job : Job) (patch rest : List ℕ) (a : Account) (bytes
     unfolding reported
     reported-gives live g-pos best =
         attains q job live (reported job patch a p) g-pos (λ kind i h t. go kind i (laneAt p i .entry) (laneAt p i .centre) (entries i h) (sym (carries-entry kind i) ∙ t))
-        (ap₂ _+ℤ_ (ap (λ (x : ℤ). pos 20 *ℤ x) (same HO)) (ap₂ (λ (m : ℕ) (x : ℤ). reduction m *ℤ x) (count-cong n _ _ (λ i h. carries-entry HN i)) (same HN)) ∙ best)
+        (ap₂ _+ℤ_ (ap (λ (x : ℤ). pos 20 *ℤ x) (same HO)) (ap₂ (λ (m : ℕ) (x : ℤ). twentieths job m *ℤ x) (count-cong (lanes job) _ _ (λ i h. carries-entry HN i)) (same HN)) ∙ best)
       where
         same : (kind : Kind) → bestUnder q job kind (reported job patch a p) ≡ placedUnder q job kind p
-        same kind = sum-cong n _ _ (λ i h. ap (λ (t : Bool). if t then laneEffect q job kind i else pos 0) (carries-entry kind i))
+        same kind = sum-cong (lanes job) _ _ (λ i h. ap (λ (t : Bool). if t then laneEffect q job kind i else pos 0) (carries-entry kind i))
 
         go : (kind : Kind) (i : ℕ) (entry : Entry) (centre : ℕ) → EntryRight q job i entry centre → entryIs kind entry ≡ true →
-            loadEffect job n (reportedLoad job patch a entry centre) ≡ pos (n * n) *ℤ laneEffect q job kind i
+            loadEffect job i n (reportedLoad job patch a entry centre) ≡ pos (n * n) *ℤ laneEffect q job kind i
         go kind i Unloaded centre r t = absurd (false≢true t)
         go HN i (Hn sense) centre r t = element-given HN sense i centre r
         go HN i (Ho sense) centre r t = absurd (false≢true t)
         go HO i (Hn sense) centre r t = absurd (false≢true t)
         go HO i (Ho sense) centre r t = element-given HO sense i centre r
 
--- ---- a placement by its set of HN lanes
-count-false : (n : ℕ) → countTo n (λ i. false) ≡ 0
-count-false zero = refl
-count-false (suc n) = ap (λ (m : ℕ). m + 0) (count-false n)
+-- ---- a placement by its set of HN lanes and the test of its HO lanes
+module _ (q : Question) (job : Job) (p : Placement) (s : ℕ) (over : ℕ → Bool) (small : s < 2 ^ lanes job)
+    (lanes-hn : (i : ℕ) → i < lanes job → entryIs HN (laneAt p i .entry) ≡ bit s i) (lanes-ho : (i : ℕ) → i < lanes job → entryIs HO (laneAt p i .entry) ≡ over i) where
+  pub placed-lanes : placedLanes job HO p ≡ countTo (lanes job) over
+  placed-lanes = count-cong (lanes job) _ _ lanes-ho
 
-count-at : (n o : ℕ) → o < n → countTo n (λ i. eqb i o) ≡ 1
-count-at zero o h = absurd (omega arith)
-count-at (suc n) o h = elim (decLe n o) [
-  | yes l ↦
-      let e : n ≡ o = omega arith in
-      ap₂ (λ (m : ℕ) (t : Bool). m + (if t then 1 else 0)) (count-cong n _ (λ i. false) (λ i k. ne-eqb i o (λ f. omega arith)) ∙ count-false n) (eq-eqb n o e)
-  | no l ↦ ap₂ (λ (m : ℕ) (t : Bool). m + (if t then 1 else 0)) (count-at n o (omega arith)) (ne-eqb n o (λ f. omega arith))
-]
-
-module _ (q : Question) (job : Job) (p : Placement) (s : ℕ) (small : s < 2 ^ lanes job) (lanes-hn : (i : ℕ) → i < lanes job → entryIs HN (laneAt p i .entry) ≡ bit s i) where
-  set-part : reduction (placedLanes job HN p) *ℤ placedUnder q job HN p ≡ setSum (lanes job) (laneEffect q job HN) s
+  pub placed-sum : placedSum q job p ≡ pos 20 *ℤ sumTo (lanes job) (λ i. if over i then laneEffect q job HO i else pos 0) +ℤ setSum (twentieths job) (lanes job) (laneEffect q job HN) s
   unfolding setSum
-  set-part =
+  placed-sum =
       let n = lanes job in
-      ap₂ (λ (m : ℕ) (x : ℤ). reduction m *ℤ x) (count-cong n _ _ lanes-hn ∙ sym (ones-count n s small))
-      (sum-cong n _ _ (λ i h. ap (λ (t : Bool). if t then laneEffect q job HN i else pos 0) (lanes-hn i h)))
-
-  -- without HO it sums to the set's
-  pub placed-normal : ((i : ℕ) → i < lanes job → entryIs HO (laneAt p i .entry) ≡ false) → (placedLanes job HO p ≡ 0) × (placedSum q job p ≡ setSum (lanes job) (laneEffect q job HN) s)
-  placed-normal no-ho = (
-    count-cong (lanes job) _ (λ i. false) no-ho ∙ count-false (lanes job),
-    ap₂ (λ (x y : ℤ). pos 20 *ℤ x +ℤ y) (sum-zero (lanes job) _ (λ i h. ap (λ (t : Bool). if t then laneEffect q job HO i else pos 0) (no-ho i h))) set-part
-        ∙ solve 1 (λ x. lit 20 ⊗ lit 0 ⊕ x ≐ x) tt (setSum (lanes job) (laneEffect q job HN) s),
-  )
-
-  -- with HO in lane o alone, that lane's HO too
-  pub placed-overload : (o : ℕ) → o < lanes job → ((i : ℕ) → i < lanes job → entryIs HO (laneAt p i .entry) ≡ eqb i o) →
-      (placedLanes job HO p ≡ 1) × (placedSum q job p ≡ pos 20 *ℤ laneEffect q job HO o +ℤ setSum (lanes job) (laneEffect q job HN) s)
-  placed-overload o l one =
-      let n = lanes job in
-      let ho : ℕ → ℤ = laneEffect q job HO in
-      let picked : ℕ → ℤ = λ i. if entryIs HO (laneAt p i .entry) then ho i else pos 0 in (
-        count-cong n _ (λ i. eqb i o) one ∙ count-at n o l,
-        ap₂ (λ (x y : ℤ). pos 20 *ℤ x +ℤ y)
-            (sum-one n picked o l (λ i h d. ap (λ (t : Bool). if t then ho i else pos 0) (one i h ∙ ne-eqb i o d)) ∙ ap (λ (t : Bool). if t then ho o else pos 0) (one o l ∙ eq-eqb o o refl)) set-part,
-      )
+      ap₂ (λ (x y : ℤ). pos 20 *ℤ x +ℤ y) (sum-cong n _ _ (λ i h. ap (λ (t : Bool). if t then laneEffect q job HO i else pos 0) (lanes-ho i h)))
+      (ap₂ (λ (m : ℕ) (x : ℤ). twentieths job m *ℤ x) (count-cong n _ _ lanes-hn ∙ sym (ones-count n s small))
+      (sum-cong n _ _ (λ i h. ap (λ (t : Bool). if t then laneEffect q job HN i else pos 0) (lanes-hn i h))))
 
 -- ---- a state
 -- the traffic counted for a row is its value, where both reported placements give theirs

@@ -1,4 +1,4 @@
--- No element in a lane beats the lane's best: the transverse line is straight between its ordinates, and these and the lane's limits are whole n-ths of a cm.
+-- No element in a lane beats the lane's best: the transverse line is straight between its ordinates, and these and the lane's limits are whole units.
 use mathlib.Core.Path.{_≡_, sym, _∙_, ap, ap₂, subst}
 use mathlib.Core.Logic.{inl, inr}
 use Prim.Native.Nat.{ℕ, zero, suc, _+_, _-_, _*_, _/_, _%_, _≤_, _<_}
@@ -14,11 +14,11 @@ use Rattle.exact.proofs.Exact.{total, pos-mono, prod, _⊕_, _⊗_, _⊝_, lit,
 use Rattle.exact.proofs.Extremes.{no-better-trans, no-better-antisym, no-better-scale, no-better-cancel, better-left, better-right, better-ind, better-least, extreme-bounds, extreme-least, extreme-met}
 use Rattle.model.specs.Job.{Carriageway, Job}
 use Rattle.model.specs.Line.{lineEffect}
-use Rattle.model.specs.Lanes.{lanesOf, lowest, highest, transverseAt, bestOrdinate, CentreFits}
-use Rattle.model.specs.Traffic.{lanes, bestInLane, laneEffect}
+use Rattle.model.specs.Lanes.{lanesOf, lowest, highest, transverseAt, bestOrdinate, unit, lowestIn, highestIn, ordinateIn, CentreFits}
+use Rattle.model.specs.Traffic.{bestInLane, laneEffect}
 use Rattle.model.specs.Arrangements.{Element, elementLine, elementEffect}
 use Rattle.model.specs.declared.Sense.the-variants.{Raising, Lowering}
-use Rattle.model.proofs.Lanes.{lane-count}
+use Rattle.model.proofs.Lanes.{lane-count, unit-pos}
 use Rattle.model.proofs.LineLimits.{OneSigned}
 use Rattle.model.proofs.Signs.{between-products}
 use Rattle.model.proofs.Uniform.{line-bound}
@@ -170,31 +170,29 @@ module _ (deck : Carriageway) (i : ℕ) (g-pos : zero < deck .g) where
       given : (z : ℤ) → NoBetter q z v → NoBetter q (z *ℤ pos 1) v
       given z h = subst (λ (x : ℤ). NoBetter q x v) (sym (one z)) h
 
-  -- an element's centre, in k-ths
-  lane-centre : (q : Question) (k centre : ℕ) (L v : ℤ) → zero < k → CentreFits deck i k centre → ((y : ℕ) → lo ≤ y → y ≤ hi → NoBetter q (transverseAt deck n y *ℤ L) v) →
-      NoBetter q (pos n *ℤ (transverseAt deck k centre *ℤ L)) (pos k *ℤ v)
-  unfolding transverseAt
-  lane-centre q k centre L v k-pos fits known =
-      let low : k * lo ≤ n * centre = fits .fromLeft in
-      let high : n * centre ≤ k * hi = omega (arith, fits .fromRight, mul-sub k (suc i * deck .width) (150 * n)) in
-      let order : lo ≤ hi = le-of-mul-le-mul-left (omega arith) k-pos in
-      centre-bound q (deck .transverse) (deck .g) n k lo hi centre L v g-pos (lane-count (deck .width) .0) k-pos low high
-      (known lo (omega arith) order) (known hi order (omega arith)) (λ c a b. known (n * deck .g * c) a b)
+-- an element's centre, in k-ths
+lane-centre : (job : Job) (i : ℕ) → zero < job .deck .g → (q : Question) (k centre : ℕ) (L v : ℤ) → zero < k → CentreFits job i k centre →
+    ((y : ℕ) → lowestIn job i ≤ y → y ≤ highestIn job i → NoBetter q (ordinateIn job i (unit job) y *ℤ L) v) → NoBetter q (pos (unit job) *ℤ (ordinateIn job i k centre *ℤ L)) (pos k *ℤ v)
+unfolding transverseAt
+lane-centre job i g-pos q k centre L v k-pos fits known =
+    let order : lowestIn job i ≤ highestIn job i = le-of-mul-le-mul-left (omega (arith, fits .from, fits .to)) k-pos in
+    centre-bound q (job .deck .transverse) (job .deck .g) (unit job) k (lowestIn job i) (highestIn job i) centre L v g-pos (unit-pos job) k-pos (fits .from) (fits .to)
+    (known (lowestIn job i) (omega arith) order) (known (highestIn job i) order (omega arith)) (λ c a b. known (unit job * job .deck .g * c) a b)
 
--- either sense's line effect at a centre in n-ths of the lane does not beat the lane's best
-pub lane-known : (q : Question) (deck : Carriageway) (i : ℕ) (raising lowering : ℤ) (y : ℕ) → lowest deck i ≤ y → y ≤ highest deck i →
-    NoBetter q (better q (transverseAt deck (lanesOf deck) y *ℤ raising) (transverseAt deck (lanesOf deck) y *ℤ lowering)) (bestInLane q deck i raising lowering)
+-- either sense's line effect at a centre of the lane, in units, does not beat the lane's best
+pub lane-known : (q : Question) (job : Job) (i : ℕ) (raising lowering : ℤ) (y : ℕ) → lowestIn job i ≤ y → y ≤ highestIn job i →
+    NoBetter q (better q (ordinateIn job i (unit job) y *ℤ raising) (ordinateIn job i (unit job) y *ℤ lowering)) (bestInLane q job i raising lowering)
 unfolding bestInLane
-lane-known q deck i raising lowering y a b =
-    let lo = lowest deck i in
-    let t : ℕ → ℤ = transverseAt deck (lanesOf deck) in
+lane-known q job i raising lowering y a b =
+    let lo = lowestIn job i in
+    let t : ℕ → ℤ = ordinateIn job i (unit job) in
     let f : ℕ → ℤ = λ y. better q (t y *ℤ raising) (t y *ℤ lowering) in
     let e : lo + (y - lo) ≡ y = omega arith in
-    subst (λ (z : ℕ). NoBetter q (f z) (bestInLane q deck i raising lowering)) e (extreme-bounds q (highest deck i - lo) (λ j. f (lo + j)) (y - lo) (omega arith))
+    subst (λ (z : ℕ). NoBetter q (f z) (bestInLane q job i raising lowering)) e (extreme-bounds q (highestIn job i - lo) (λ j. f (lo + j)) (y - lo) (omega arith))
 
 -- no element in lane i, for any k, beats the lane's best
-pub lane-bound : (q : Question) (job : Job) (i k : ℕ) (e : Element) → OneSigned (job .line) → zero < job .deck .g → zero < k → CentreFits (job .deck) i k (e .centre) →
-    NoBetter q (pos (lanes job) *ℤ elementEffect job k e) (pos (k * k * k) *ℤ laneEffect q job (e .kind) i)
+pub lane-bound : (q : Question) (job : Job) (i k : ℕ) (e : Element) → OneSigned (job .line) → zero < job .deck .g → zero < k → CentreFits job i k (e .centre) →
+    NoBetter q (pos (unit job) *ℤ elementEffect job i k e) (pos (k * k * k) *ℤ laneEffect q job (e .kind) i)
 unfolding elementEffect laneEffect
 lane-bound q job i k e signed g-pos k-pos fits =
     no-better-trans q _ _ _
@@ -203,7 +201,7 @@ lane-bound q job i k e signed g-pos k-pos fits =
     (of raising (λ y. better-left q (at-y y *ℤ raising) (at-y y *ℤ lowering))) (of lowering (λ y. better-right q (at-y y *ℤ raising) (at-y y *ℤ lowering))))
   where
     n : ℕ
-    n = lanes job
+    n = unit job
 
     raising : ℤ
     raising = lineEffect (job .line) (e .kind) Raising
@@ -212,20 +210,20 @@ lane-bound q job i k e signed g-pos k-pos fits =
     lowering = lineEffect (job .line) (e .kind) Lowering
 
     t : ℤ
-    t = transverseAt (job .deck) k (e .centre)
+    t = ordinateIn job i k (e .centre)
 
     best : ℤ
-    best = bestInLane q (job .deck) i raising lowering
+    best = bestInLane q job i raising lowering
 
     at-y : ℕ → ℤ
-    at-y y = transverseAt (job .deck) n y
+    at-y y = ordinateIn job i n y
 
     of : (L : ℤ) → ((y : ℕ) → NoBetter q (at-y y *ℤ L) (better q (at-y y *ℤ raising) (at-y y *ℤ lowering))) → NoBetter q (pos n *ℤ (t *ℤ (pos (k * k) *ℤ L))) (pos (k * k * k) *ℤ best)
     of L one =
         subst (λ (x : ℤ). NoBetter q x (pos (k * k * k) *ℤ best)) (solve 4 (λ k n t l. k ⊗ k ⊗ (n ⊗ (t ⊗ l)) ≐ n ⊗ (t ⊗ (k ⊗ k ⊗ l))) tt (pos k) (pos n) t L)
         (subst (NoBetter q (pos (k * k) *ℤ (pos n *ℤ (t *ℤ L)))) (solve 2 (λ k b. k ⊗ k ⊗ (k ⊗ b) ≐ k ⊗ k ⊗ k ⊗ b) tt (pos k) best)
         (no-better-scale q (k * k) _ _
-        (lane-centre (job .deck) i g-pos q k (e .centre) L best k-pos fits (λ y a b. no-better-trans q _ _ _ (one y) (lane-known q (job .deck) i raising lowering y a b)))))
+        (lane-centre job i g-pos q k (e .centre) L best k-pos fits (λ y a b. no-better-trans q _ _ _ (one y) (lane-known q job i raising lowering y a b)))))
 
 -- ---- a lane's best, by its best ordinates
 -- a factor that is not negative keeps the question, one that is not positive turns it
@@ -233,15 +231,15 @@ factor-up : (q : Question) (c x v : ℤ) → pos 0 ≤ℤ c → NoBetter q x v �
 factor-up Greatest c x v p h = linear 3 (λ c x v. lit 0 ≼ (c ⊝ lit 0) ⊗ (v ⊝ x) ⇒ x ⊗ c ≼ v ⊗ c) c x v (omega arith) (prod p h)
 factor-up Least c x v p h = linear 3 (λ c x v. lit 0 ≼ (c ⊝ lit 0) ⊗ (x ⊝ v) ⇒ v ⊗ c ≼ x ⊗ c) c x v (omega arith) (prod p h)
 
-factor-down : (q : Question) (c x v : ℤ) → c ≤ℤ pos 0 → NoBetter (other q) x v → NoBetter q (x *ℤ c) (v *ℤ c)
+pub factor-down : (q : Question) (c x v : ℤ) → c ≤ℤ pos 0 → NoBetter (other q) x v → NoBetter q (x *ℤ c) (v *ℤ c)
 factor-down Greatest c x v p h = linear 3 (λ c x v. lit 0 ≼ (lit 0 ⊝ c) ⊗ (x ⊝ v) ⇒ x ⊗ c ≼ v ⊗ c) c x v (omega arith) (prod p h)
 factor-down Least c x v p h = linear 3 (λ c x v. lit 0 ≼ (lit 0 ⊝ c) ⊗ (v ⊝ x) ⇒ v ⊗ c ≼ x ⊗ c) c x v (omega arith) (prod p h)
 
 -- where raising is not below 0 and lowering not above: the raising element at the best ordinate, or the lowering one at the other question's best
-pub bestInLane-split : (q : Question) (deck : Carriageway) (i : ℕ) (raising lowering : ℤ) → pos 0 ≤ℤ raising → lowering ≤ℤ pos 0 →
-    bestInLane q deck i raising lowering ≡ better q (bestOrdinate q deck i *ℤ raising) (bestOrdinate (other q) deck i *ℤ lowering)
-unfolding bestInLane bestOrdinate
-bestInLane-split q deck i raising lowering up down =
+pub bestInLane-split : (q : Question) (job : Job) (i : ℕ) (raising lowering : ℤ) → pos 0 ≤ℤ raising → lowering ≤ℤ pos 0 →
+    bestInLane q job i raising lowering ≡ better q (bestOrdinate q (job .deck) i *ℤ raising) (bestOrdinate (other q) (job .deck) i *ℤ lowering)
+unfolding bestInLane bestOrdinate unit lowestIn highestIn
+bestInLane-split q job i raising lowering up down =
     no-better-antisym q (extreme q m f) (better q (best *ℤ raising) (least *ℤ lowering))
     (extreme-least q m f _ (λ j l. better-least q (t j *ℤ raising) (t j *ℤ lowering) _
     (no-better-trans q _ _ _ (factor-up q raising (t j) best up (extreme-bounds q m t j l)) (better-left q (best *ℤ raising) (least *ℤ lowering)))
@@ -253,10 +251,10 @@ bestInLane-split q deck i raising lowering up down =
     (no-better-trans q _ _ _ (better-right q (t (at .who) *ℤ raising) (t (at .who) *ℤ lowering)) (extreme-bounds q m f (at .who) (at .below)))))
   where
     m : ℕ
-    m = highest deck i - lowest deck i
+    m = highestIn job i - lowestIn job i
 
     t : ℕ → ℤ
-    t j = transverseAt deck (lanesOf deck) (lowest deck i + j)
+    t j = ordinateIn job i (unit job) (lowestIn job i + j)
 
     f : ℕ → ℤ
     f j = better q (t j *ℤ raising) (t j *ℤ lowering)

@@ -28,14 +28,14 @@ use Rattle.model.specs.Job.{Piece, InfluenceLine, Job, Live, noTraffic, 
 use Rattle.model.specs.Decode.{decode}
 use Rattle.model.specs.Refusals.{jobVerdict}
 use Rattle.model.specs.Line.{Kind, HN, HO, axle, axleSpacing, ordinate, pair, endSum, patchByte, loadedByte, sought, loadedSum, uniformPart, station, bestPair, lineEffect}
-use Rattle.model.specs.Lanes.{lanesOf, reduction, lowest, highest, transverseUnit, transverseAt, without}
-use Rattle.model.specs.Traffic.{lanes, bestInLane, laneEffect, setSum, bestNormal, bestOverload, bestSum, effectOf, trafficValue}
+use Rattle.model.specs.Lanes.{without, lanes, unit, sumUnit, lowestIn, highestIn, ordinateIn, twentieths}
+use Rattle.model.specs.Traffic.{bestInLane, laneEffect, setSum, bestNormal, bestOverload, bestSum, effectOf, trafficValue}
 use Rattle.model.specs.declared.Side.{Side}
 use Rattle.model.specs.declared.Side.the-variants.{Left, Right}
 use Rattle.model.specs.declared.Sense.{Sense}
 use Rattle.model.specs.declared.Sense.the-variants.{Raising, Lowering}
 use Rattle.model.proofs.Accepted.{accepted-spaced}
-use Rattle.model.proofs.Lanes.{lane-count}
+use Rattle.model.proofs.Lanes.{unit-pos}
 
 -- ---- the pair
 -- at and past the line's right end the ordinate is 0, from the left only past it
@@ -138,36 +138,35 @@ between-products Least t x low high l r = elim (total (pos 0) t) [
 pub lane-zero : (q : Question) (job : Job) (kind : Kind) (i : ℕ) → NoBetter q (pos 0) (laneEffect q job kind i)
 unfolding laneEffect bestInLane
 lane-zero q job kind i =
-    let deck = job .deck in
     let raising = lineEffect (job .line) kind Raising in
     let lowering = lineEffect (job .line) kind Lowering in
-    let t : ℕ → ℤ = λ j. transverseAt deck (lanesOf deck) (lowest deck i + j) in
+    let t : ℕ → ℤ = λ j. ordinateIn job i (unit job) (lowestIn job i + j) in
     let f : ℕ → ℤ = λ j. better q (t j *ℤ raising) (t j *ℤ lowering) in
     no-better-trans q (pos 0) (f 0) _
     (subst (λ (x : ℤ). NoBetter q x (f 0)) (solve 1 (λ t. t ⊗ lit 0 ≐ lit 0) tt (t 0))
     (between-products q (t 0) (pos 0) lowering raising (line-zero (job .line) kind Lowering) (line-zero (job .line) kind Raising)))
-    (extreme-bounds q (highest deck i - lowest deck i) f 0 (omega arith))
+    (extreme-bounds q (highestIn job i - lowestIn job i) f 0 (omega arith))
 
 -- ---- sets
 -- the empty set gives 0
-pub empty-sum : (n : ℕ) (hn : ℕ → ℤ) → setSum n hn 0 ≡ pos 0
+pub empty-sum : (r : ℕ → ℤ) (n : ℕ) (hn : ℕ → ℤ) → setSum r n hn 0 ≡ pos 0
 unfolding setSum
-empty-sum n hn = ap (λ (x : ℤ). reduction (ones 0) *ℤ x) (sum-zero n _ (λ i l. rw (zero-div (2 ^ i)) refl)) ∙ solve 1 (λ r. r ⊗ lit 0 ≐ lit 0) tt (reduction (ones 0))
+empty-sum r n hn = ap (λ (x : ℤ). r (ones 0) *ℤ x) (sum-zero n _ (λ i l. rw (zero-div (2 ^ i)) refl)) ∙ solve 1 (λ r. r ⊗ lit 0 ≐ lit 0) tt (r (ones 0))
 
 -- no best sum is beaten by 0
 pub sum-zero-bound : (q : Question) (job : Job) (live : Live) → NoBetter q (pos 0) (bestSum q job live)
 unfolding bestSum bestNormal bestOverload
 sum-zero-bound q job noTraffic = no-better-refl q (pos 0)
 sum-zero-bound q job normal =
-    subst (λ (x : ℤ). NoBetter q x (bestSum q job normal)) (empty-sum (lanes job) (laneEffect q job HN))
-    (extreme-bounds q (2 ^ lanes job - 1) (setSum (lanes job) (laneEffect q job HN)) 0 (omega arith))
+    subst (λ (x : ℤ). NoBetter q x (bestSum q job normal)) (empty-sum (twentieths job) (lanes job) (laneEffect q job HN))
+    (extreme-bounds q (2 ^ lanes job - 1) (setSum (twentieths job) (lanes job) (laneEffect q job HN)) 0 (omega arith))
 sum-zero-bound q job overload =
     let hn = laneEffect q job HN in
     let ho = laneEffect q job HO in
     let n = lanes job in
-    let f : ℕ → ℕ → ℤ = λ o set. pos 20 *ℤ ho o +ℤ setSum n hn (without o set) in
+    let f : ℕ → ℕ → ℤ = λ o set. pos 20 *ℤ ho o +ℤ setSum (twentieths job) n hn (without o set) in
     no-better-trans q (pos 0) (pos 20 *ℤ ho 0) _ (multiple-zero q 20 (ho 0) (lane-zero q job HO 0))
-    (no-better-trans q _ (f 0 0) _ (no-better-of-eq q (solve 1 (λ x. x ≐ x ⊕ lit 0) tt (pos 20 *ℤ ho 0) ∙ ap (λ (x : ℤ). pos 20 *ℤ ho 0 +ℤ x) (sym (empty-sum n hn))))
+    (no-better-trans q _ (f 0 0) _ (no-better-of-eq q (solve 1 (λ x. x ≐ x ⊕ lit 0) tt (pos 20 *ℤ ho 0) ∙ ap (λ (x : ℤ). pos 20 *ℤ ho 0 +ℤ x) (sym (empty-sum (twentieths job) n hn))))
     (no-better-trans q _ _ _ (extreme-bounds q (2 ^ n - 1) (f 0) 0 (omega arith)) (extreme-bounds q (n - 1) (λ o. extreme q (2 ^ n - 1) (f o)) 0 (omega arith))))
 
 -- ---- the value
@@ -180,17 +179,17 @@ rounded-zero Least d = rw (zero-div d) refl
 pub no-traffic : (q : Question) (job : Job) → trafficValue q job noTraffic ≡ pos 0
 unfolding trafficValue effectOf bestSum
 no-traffic q job =
-    let d = 800000 * transverseUnit (job .deck) (lanes job) in
+    let d = 800000 * sumUnit job (unit job) in
     ap (λ (x : ℤ). rounded q (pos 3 *ℤ x) d) (solve 1 (λ y. y ⊗ lit 0 ≐ lit 0) tt (pos (job .dynamic q))) ∙ rounded-zero q d
 
 -- 0 beats no traffic value
 pub traffic-zero : (q : Question) (job : Job) (live : Live) → zero < job .deck .g → NoBetter q (pos 0) (trafficValue q job live)
 unfolding trafficValue effectOf
 traffic-zero q job live g =
-    let d = transverseUnit (job .deck) (lanes job) in
+    let d = sumUnit job (unit job) in
     let x = bestSum q job live in
     subst (λ (z : ℤ). NoBetter q z (trafficValue q job live)) (rounded-zero q (800000 * d))
-    (rounded-mono q (pos 0) (pos 3 *ℤ (pos (job .dynamic q) *ℤ x)) (800000 * d) (mul-pos (omega arith) (mul-pos (lane-count (job .deck .width) .0) g))
+    (rounded-mono q (pos 0) (pos 3 *ℤ (pos (job .dynamic q) *ℤ x)) (800000 * d) (mul-pos (omega arith) (mul-pos (unit-pos job) g))
     (multiple-zero q 3 _ (multiple-zero q (job .dynamic q) x (sum-zero-bound q job live))))
 
 -- so of an accepted job no greatest traffic value is below 0, and no least above

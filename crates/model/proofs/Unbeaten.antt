@@ -23,10 +23,10 @@ use Rattle.model.specs.Job.{Job, Live, noTraffic, normal, overload}
 use Rattle.model.specs.Decode.{decode}
 use Rattle.model.specs.Refusals.{jobVerdict}
 use Rattle.model.specs.Line.{Kind, HN, HO}
-use Rattle.model.specs.Lanes.{reduction, without}
-use Rattle.model.specs.Traffic.{lanes, laneEffect, setSum, bestNormal, bestOverload, bestSum, effectOf, trafficValue}
+use Rattle.model.specs.Lanes.{reduction, without, lanes, unit, twentieths}
+use Rattle.model.specs.Traffic.{laneEffect, setSum, bestNormal, bestOverload, bestSum, effectOf, trafficValue}
 use Rattle.model.specs.Arrangements.{Element, Load, unloaded, element, Arrangement, elementEffect, carries, loadEffect, lanesUnder, sumUnder, sumOf, arranged, OverloadLanes, Lawful}
-use Rattle.model.proofs.Lanes.{lane-count}
+use Rattle.model.proofs.Lanes.{unit-pos}
 use Rattle.model.proofs.LineLimits.{OneSigned}
 use Rattle.model.proofs.Accepted.{accepted-signed, accepted-spaced}
 use Rattle.model.proofs.Uniform.{either}
@@ -34,7 +34,7 @@ use Rattle.model.proofs.Centre.{lane-bound}
 use Rattle.model.proofs.Sets.{setNumber, set-below, set-bit, set-sum}
 
 -- r is not negative
-reduction-nonneg : (m : ℕ) → pos 0 ≤ℤ reduction m
+pub reduction-nonneg : (m : ℕ) → pos 0 ≤ℤ reduction m
 unfolding reduction
 reduction-nonneg m =
     let P : ℤ → Type 0 = λ z. pos 0 ≤ℤ z in
@@ -61,9 +61,9 @@ not-both (element e) h = ap (λ (k : Kind). elim k as (λ _. Bool) [ HN ↦ true
 abbrev pub bestUnder : Question → Job → Kind → Arrangement → ℤ
 bestUnder q job kind a = sumTo (lanes job) (λ i. if carries kind (a i) then laneEffect q job kind i else pos 0)
 
--- its sum with every lane at its best: times n g
+-- its sum with every lane at its best: times the sums' denominator
 abbrev pub bestOf : Question → Job → Arrangement → ℤ
-bestOf q job a = pos 20 *ℤ bestUnder q job HO a +ℤ reduction (lanesUnder job HN a) *ℤ bestUnder q job HN a
+bestOf q job a = pos 20 *ℤ bestUnder q job HO a +ℤ twentieths job (lanesUnder job HN a) *ℤ bestUnder q job HN a
 
 -- ---- the best sum bounds what the lanes' bests give together
 module _ (q : Question) (job : Job) (a : Arrangement) where
@@ -84,29 +84,29 @@ module _ (q : Question) (job : Job) (a : Arrangement) where
   set-small = le-ones n (set-below n (λ i. carries HN (a i)))
 
   -- the HO lanes' bests, and those of the HN lanes' set
-  as-set : (x : ℤ) → bestUnder q job HO a ≡ x → bestOf q job a ≡ pos 20 *ℤ x +ℤ setSum n hn set
-  as-set x e = ap₂ (λ (y z : ℤ). pos 20 *ℤ y +ℤ z) e (set-sum n (λ i. carries HN (a i)) hn)
+  as-set : (x : ℤ) → bestUnder q job HO a ≡ x → bestOf q job a ≡ pos 20 *ℤ x +ℤ setSum (twentieths job) n hn set
+  as-set x e = ap₂ (λ (y z : ℤ). pos 20 *ℤ y +ℤ z) e (set-sum (twentieths job) n (λ i. carries HN (a i)) hn)
 
-  normal-best : lanesUnder job HO a ≡ 0 → NoBetter q (bestOf q job a) (bestNormal q n hn)
+  normal-best : lanesUnder job HO a ≡ 0 → NoBetter q (bestOf q job a) (bestNormal q (twentieths job) n hn)
   unfolding bestNormal
   normal-best no-ho =
-      subst (λ (x : ℤ). NoBetter q x (bestNormal q n hn))
-      (solve 1 (λ s. s ≐ lit 20 ⊗ lit 0 ⊕ s) tt (setSum n hn set)
+      subst (λ (x : ℤ). NoBetter q x (bestNormal q (twentieths job) n hn))
+      (solve 1 (λ s. s ≐ lit 20 ⊗ lit 0 ⊕ s) tt (setSum (twentieths job) n hn set)
       ∙ sym (as-set (pos 0) (sum-zero n _ (λ i h. ap (λ (t : Bool). if t then ho i else pos 0) (count-none n (λ i. carries HO (a i)) no-ho i h)))))
-      (extreme-bounds q (2 ^ n - 1) (setSum n hn) set set-small)
+      (extreme-bounds q (2 ^ n - 1) (setSum (twentieths job) n hn) set set-small)
 
-  overload-best : lanesUnder job HO a ≡ 1 → NoBetter q (bestOf q job a) (bestOverload q n hn ho)
+  overload-best : lanesUnder job HO a ≡ 1 → NoBetter q (bestOf q job a) (bestOverload q (twentieths job) n hn ho)
   unfolding bestOverload
   overload-best one =
       let it = count-one n (λ i. carries HO (a i)) one in
       let o = it .who in
       let l = it .below in
-      let f : ℕ → ℕ → ℤ = λ o set. pos 20 *ℤ ho o +ℤ setSum n hn (without o set) in
+      let f : ℕ → ℕ → ℤ = λ o set. pos 20 *ℤ ho o +ℤ setSum (twentieths job) n hn (without o set) in
       let picked : ℕ → ℤ = λ i. if carries HO (a i) then ho i else pos 0 in
       let sum : bestUnder q job HO a ≡ ho o = sum-one n picked o l (λ i h d. ap (λ (t : Bool). if t then ho i else pos 0) (it .others i h d)) ∙ ap (λ (t : Bool). if t then ho o else pos 0) (it .holds) in
       let same : without o set ≡ set = ap (λ (t : Bool). if t then set - 2 ^ o else set) (set-bit n (λ i. carries HN (a i)) o l ∙ not-both (a o) (it .holds)) in
-      subst (λ (x : ℤ). NoBetter q x (bestOverload q n hn ho))
-      (ap (λ (s : ℕ). pos 20 *ℤ ho o +ℤ setSum n hn s) same ∙ sym (as-set (ho o) sum))
+      subst (λ (x : ℤ). NoBetter q x (bestOverload q (twentieths job) n hn ho))
+      (ap (λ (s : ℕ). pos 20 *ℤ ho o +ℤ setSum (twentieths job) n hn s) same ∙ sym (as-set (ho o) sum))
       (no-better-trans q _ _ _ (extreme-bounds q (2 ^ n - 1) (f o) set set-small) (extreme-bounds q (n - 1) (λ o. extreme q (2 ^ n - 1) (f o)) o (omega arith)))
 
   best-bound : (live : Live) → OverloadLanes live (lanesUnder job HO a) → NoBetter q (bestOf q job a) (bestSum q job live)
@@ -121,30 +121,30 @@ module _ (q : Question) (job : Job) (live : Live) (k : ℕ) (a : Arrangement) (s
   c = k * k * k
 
   lane-load : (kind : Kind) (i : ℕ) → i < lanes job → (l : Load) → a i ≡ l →
-      NoBetter q (pos (lanes job) *ℤ (if carries kind l then loadEffect job k l else pos 0)) (pos c *ℤ (if carries kind l then laneEffect q job kind i else pos 0))
-  lane-load kind i h unloaded e = no-better-of-eq q (solve 2 (λ n c. n ⊗ lit 0 ≐ c ⊗ lit 0) tt (pos (lanes job)) (pos c))
+      NoBetter q (pos (unit job) *ℤ (if carries kind l then loadEffect job i k l else pos 0)) (pos c *ℤ (if carries kind l then laneEffect q job kind i else pos 0))
+  lane-load kind i h unloaded e = no-better-of-eq q (solve 2 (λ n c. n ⊗ lit 0 ≐ c ⊗ lit 0) tt (pos (unit job)) (pos c))
   lane-load kind i h (element x) e =
-      by-test (carries kind (element x)) (λ t. NoBetter q (pos (lanes job) *ℤ (if t then elementEffect job k x else pos 0)) (pos c *ℤ (if t then laneEffect q job kind i else pos 0)))
-      (λ t. subst (λ (kind : Kind). NoBetter q (pos (lanes job) *ℤ elementEffect job k x) (pos c *ℤ laneEffect q job kind i)) (carries-kind kind x t) (lane-bound q job i k x signed g-pos (law .fine) (law .centres i x h e)))
-      (λ t. no-better-of-eq q (solve 2 (λ n c. n ⊗ lit 0 ≐ c ⊗ lit 0) tt (pos (lanes job)) (pos c)))
+      by-test (carries kind (element x)) (λ t. NoBetter q (pos (unit job) *ℤ (if t then elementEffect job i k x else pos 0)) (pos c *ℤ (if t then laneEffect q job kind i else pos 0)))
+      (λ t. subst (λ (kind : Kind). NoBetter q (pos (unit job) *ℤ elementEffect job i k x) (pos c *ℤ laneEffect q job kind i)) (carries-kind kind x t) (lane-bound q job i k x signed g-pos (law .fine) (law .centres i x h e)))
+      (λ t. no-better-of-eq q (solve 2 (λ n c. n ⊗ lit 0 ≐ c ⊗ lit 0) tt (pos (unit job)) (pos c)))
 
   -- all lanes of a kind
-  kind-bound : (kind : Kind) → NoBetter q (pos (lanes job) *ℤ sumUnder job k kind a) (pos c *ℤ bestUnder q job kind a)
+  kind-bound : (kind : Kind) → NoBetter q (pos (unit job) *ℤ sumUnder job k kind a) (pos c *ℤ bestUnder q job kind a)
   unfolding sumUnder
   kind-bound kind =
       let n = lanes job in
-      let f : ℕ → ℤ = λ i. if carries kind (a i) then loadEffect job k (a i) else pos 0 in
+      let f : ℕ → ℤ = λ i. if carries kind (a i) then loadEffect job i k (a i) else pos 0 in
       let best : ℕ → ℤ = λ i. if carries kind (a i) then laneEffect q job kind i else pos 0 in
-      subst (λ (x : ℤ). NoBetter q x (pos c *ℤ sumTo n best)) (sum-scale n (pos n) f)
-      (subst (NoBetter q (sumTo n (λ i. pos n *ℤ f i))) (sum-scale n (pos c) best)
-      (sum-mono q n (λ i. pos n *ℤ f i) (λ i. pos c *ℤ best i) (λ i h. lane-load kind i h (a i) refl)))
+      subst (λ (x : ℤ). NoBetter q x (pos c *ℤ sumTo n best)) (sum-scale n (pos (unit job)) f)
+      (subst (NoBetter q (sumTo n (λ i. pos (unit job) *ℤ f i))) (sum-scale n (pos c) best)
+      (sum-mono q n (λ i. pos (unit job) *ℤ f i) (λ i. pos c *ℤ best i) (λ i h. lane-load kind i h (a i) refl)))
 
-  -- all lanes: n times the sum against k k k times the best
-  sum-bound : NoBetter q (pos (lanes job) *ℤ sumOf job k a) (pos c *ℤ bestOf q job a)
+  -- all lanes: the unit times the sum against k k k times the best
+  sum-bound : NoBetter q (pos (unit job) *ℤ sumOf job k a) (pos c *ℤ bestOf q job a)
   unfolding sumOf
   sum-bound =
-      let n = pos (lanes job) in
-      let r = reduction (lanesUnder job HN a) in
+      let n = pos (unit job) in
+      let r = twentieths job (lanesUnder job HN a) in
       let turn : (m s t : ℤ) → pos 20 *ℤ (m *ℤ s) +ℤ r *ℤ (m *ℤ t) ≡ m *ℤ (pos 20 *ℤ s +ℤ r *ℤ t) =
       λ m s t. solve 4 (λ m s t r. lit 20 ⊗ (m ⊗ s) ⊕ r ⊗ (m ⊗ t) ≐ m ⊗ (lit 20 ⊗ s ⊕ r ⊗ t)) tt m s t r in
       subst (λ (x : ℤ). NoBetter q x (pos c *ℤ bestOf q job a)) (turn n (sumUnder job k HO a) (sumUnder job k HN a))
@@ -155,13 +155,13 @@ module _ (q : Question) (job : Job) (live : Live) (k : ℕ) (a : Arrangement) (s
   pub unbeaten : NoBetter q (arranged q job k a) (trafficValue q job live)
   unfolding arranged trafficValue effectOf
   unbeaten =
-      let n = lanes job in
+      let n = unit job in
       let g = job .deck .g in
       let y = job .dynamic q in
       let k-pos = law .fine in
       let some : zero < 800000 = omega arith in
       rounded-cross q (pos 3 *ℤ (pos y *ℤ sumOf job k a)) (pos 3 *ℤ (pos y *ℤ bestSum q job live)) (800000 * (k * k * (k * g))) (800000 * (n * g))
-      (mul-pos some (mul-pos (mul-pos k-pos k-pos) (mul-pos k-pos g-pos))) (mul-pos some (mul-pos (lane-count (job .deck .width) .0) g-pos))
+      (mul-pos some (mul-pos (mul-pos k-pos k-pos) (mul-pos k-pos g-pos))) (mul-pos some (mul-pos (unit-pos job) g-pos))
       (subst (λ (x : ℤ). NoBetter q x (pos (800000 * (k * k * (k * g))) *ℤ (pos 3 *ℤ (pos y *ℤ bestSum q job live))))
       (solve 5 (λ m n g y s. m ⊗ g ⊗ (lit 3 ⊗ y) ⊗ (n ⊗ s) ≐ m ⊗ (n ⊗ g) ⊗ (lit 3 ⊗ (y ⊗ s))) tt (pos 800000) (pos n) (pos g) (pos y) (sumOf job k a))
       (subst (NoBetter q (pos (800000 * g * (3 * y)) *ℤ (pos n *ℤ sumOf job k a)))

@@ -8,19 +8,19 @@ use Rattle.exact.specs.Ranges.{sumTo, countTo}
 use Rattle.exact.specs.declared.Question.{Question}
 use Rattle.model.specs.Job.{Job}
 use Rattle.model.specs.Line.{Kind, HN, HO, lineEffect}
-use Rattle.model.specs.Lanes.{lowest, highest, reduction, transverseAt}
-use Rattle.model.specs.Traffic.{lanes, laneEffect}
+use Rattle.model.specs.Lanes.{lanes, unit, lowestIn, highestIn, ordinateIn, twentieths}
+use Rattle.model.specs.Traffic.{laneEffect}
 use Rattle.model.specs.Answered.{laneAt}
 use Rattle.model.specs.declared.Sense.{Sense}
 use Rattle.model.specs.declared.Entry.{Entry}
 use Rattle.model.specs.declared.Entry.the-variants.{Unloaded, Hn, Ho}
 use Rattle.model.specs.declared.Placement.{Placement}
 
--- an element in lane i, at a centre in n-ths of a cm within the lane's limits, where its sense's line effect gives the lane's best
+-- an element in lane i, at a centre in units within the lane's limits, where its sense's line effect gives the lane's best
 pub record BestCentre (q : Question) (job : Job) (kind : Kind) (sense : Sense) (i centre : ℕ) : Type 0 where
-  pub low : lowest (job .deck) i ≤ centre
-  pub high : centre ≤ highest (job .deck) i
-  pub best : transverseAt (job .deck) (lanes job) centre *ℤ lineEffect (job .line) kind sense ≡ laneEffect q job kind i
+  pub low : lowestIn job i ≤ centre
+  pub high : centre ≤ highestIn job i
+  pub best : ordinateIn job i (unit job) centre *ℤ lineEffect (job .line) kind sense ≡ laneEffect q job kind i
 
 -- a lane's entry is as good as any of its kind
 abbrev pub EntryRight : Question → Job → ℕ → Entry → (centre : ℕ) → Type 0
@@ -40,10 +40,10 @@ entryIs HO (Ho sense) = true
 abbrev pub placedLanes : Job → Kind → Placement → ℕ
 placedLanes job kind p = countTo (lanes job) (λ i. entryIs kind (laneAt p i .entry))
 
--- the sum of those lanes' bests: 75 N·U times thousandths times n g
+-- the sum of those lanes' bests: 75 N·U times thousandths times the sums' denominator
 abbrev pub placedUnder : Question → Job → Kind → Placement → ℤ
 placedUnder q job kind p = sumTo (lanes job) (λ i. if entryIs kind (laneAt p i .entry) then laneEffect q job kind i else pos 0)
 
 -- a placement's X but for the dynamic factor: HO at 20, the HN lanes at the r of their number
 abbrev pub placedSum : Question → Job → Placement → ℤ
-placedSum q job p = pos 20 *ℤ placedUnder q job HO p +ℤ reduction (placedLanes job HN p) *ℤ placedUnder q job HN p
+placedSum q job p = pos 20 *ℤ placedUnder q job HO p +ℤ twentieths job (placedLanes job HN p) *ℤ placedUnder q job HN p

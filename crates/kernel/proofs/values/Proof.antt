@@ -1,18 +1,17 @@
 use mathlib.Core.Path.{_≡_, sym, subst}
 use mathlib.Core.List.{List}
-use Prim.Native.Nat.{ℕ}
-use lib.Dec.{lit≤}
+use Prim.Native.Nat.{ℕ, _≤_}
 use Rattle.exact.specs.declared.Question.{Question}
 use Rattle.exact.specs.declared.Question.the-variants.{Greatest, Least}
 use Rattle.model.specs.Job.{Job}
 use Rattle.model.specs.Decode.{decode}
 use Rattle.model.specs.Line.{HN, HO}
-use Rattle.lanes.specs.Fits.{AcrossFits}
-use Rattle.lanes.specs.Traffic.{TrafficFits, EffectsFit, Spanned}
+use Rattle.lanes.specs.Transverse.{TransverseFits}
+use Rattle.lanes.specs.Spans.{Spanned}
+use Rattle.lanes.specs.Loadings.{LineEffectsFit, effectsOf}
 use Rattle.lanes.specs.declared.traffic.Effects.{Effects}
-use Rattle.kernel.specs.Parts.{effectsOf}
-use Rattle.kernel.proofs.Fits.{sized, across-fits, width-limits, dynamic-limits}
-use Rattle.kernel.proofs.Loads.{handed, effects-are, effects-fit, wider, traffic-fits, spanned, factor-is, normal-found, overload-found}
+use Rattle.kernel.proofs.Fits.{sized, across-fits, dynamic-limits, dynamic}
+use Rattle.kernel.proofs.Loads.{handed, effects-are, effects-fit, spanned, factor-is}
 use borrow.Author.Needs.{needs}
 use Rattle.kernel.proofs.values.Statement.{statement}
 use Rattle.kernel.proofs.values.Tie as tie
@@ -29,26 +28,20 @@ effect-requires-3 c κs = c .before .before .before .pre .1 .0 .near
 effect-requires-4 : tie.Need-effect-requires-4
 effect-requires-4 c κs = c .before .before .before .before .pre .1 .1 .near
 
-lane-count-requires : tie.Need-lane-count-requires
-lane-count-requires c κs = width-limits (c .before .before .before .before .before .pre .0)
-
 factor-requires : tie.Need-factor-requires
-factor-requires c κs = dynamic-limits (c .before .before .before .before .before .before .pre .0)
+factor-requires c κs = dynamic-limits (c .before .before .before .before .before .pre .0)
 
 section-requires : tie.Need-section-requires
-section-requires c κs = sized (c .before .before .before .before .before .before .before .pre .0)
+section-requires c κs = sized (c .before .before .before .before .before .before .pre .0)
 
-spans-requires : tie.Need-spans-requires
-spans-requires c κs =
-    let s = c .before .before .before .before .before .before .before .before in
-    (subst (λ (l : List ℕ). AcrossFits l (s .args .head .width) (s .args .head .spacing)) (sym (c .section .ensures)) (across-fits (s .pre .0)), c .before .before .lane-count .ensures .0)
+across-of-requires : tie.Need-across-of-requires
+across-of-requires c κs =
+    let s = c .before .before .before .before .before .before .before in
+    subst (λ (l : List ℕ). TransverseFits l (s .args .head .width) (s .args .head .spacing)) (sym (c .section .ensures)) (across-fits (s .pre .0))
 
-module _ (c : tie.After-spans) where
-  abbrev counted : tie.After-lane-count
-  counted = c .before .before .before
-
+module _ (c : tie.After-across-of) where
   abbrev formed : tie.After-effect4
-  formed = counted .before
+  formed = c .before .before .before
 
   abbrev st : tie.Start
   st = formed .before .before .before .before .before
@@ -65,59 +58,55 @@ module _ (c : tie.After-spans) where
   hn-are : hn ≡ effectsOf job HN
   hn-are = effects-are job HN (st .pre .1 .0) (st .pre .1 .1) (formed .before .before .before .effect .ensures) (formed .before .before .effect2 .ensures)
 
-  hn-fit : EffectsFit 86000000 hn
+  hn-fit : LineEffectsFit 86000000 hn
   hn-fit = effects-fit job HN (st .pre .1 .0) (st .pre .1 .1) (formed .before .before .before .effect .ensures) (formed .before .before .effect2 .ensures)
-
-  hn-wide : EffectsFit 102000000 hn
-  hn-wide = wider (lit≤ tt) hn-fit
 
   ho-are : ho ≡ effectsOf job HO
   ho-are = effects-are job HO (st .pre .1 .0) (st .pre .1 .1) (formed .before .effect3 .ensures) (formed .effect4 .ensures)
 
-  ho-fit : EffectsFit 102000000 ho
+  ho-fit : LineEffectsFit 102000000 ho
   ho-fit = effects-fit job HO (st .pre .1 .0) (st .pre .1 .1) (formed .before .effect3 .ensures) (formed .effect4 .ensures)
 
-  fits : TrafficFits (c .spans .result) (counted .lane-count .result) (st .args .head .spacing) (c .before .before .factor .result)
-  fits = traffic-fits (st .pre .0) (c .before .section .ensures) (c .spans .result) (counted .lane-count .ensures) (c .before .before .factor .ensures) (c .spans .ensures .1 .0)
+  over : Spanned job (c .across-of .result)
+  over = spanned (st .pre .0) (c .before .section .ensures) (c .across-of .ensures)
 
-  over : Spanned (job .deck) (c .spans .result) (counted .lane-count .result) (st .args .head .spacing)
-  over = spanned (st .pre .0) (c .before .section .ensures) (c .spans .result) (counted .lane-count .ensures) (c .before .before .factor .ensures) (c .spans .ensures .1 .0)
+  limits : (1000 ≤ c .before .before .factor .result) × (c .before .before .factor .result ≤ 1300)
+  limits = subst (λ (d : ℕ). (1000 ≤ d) × (d ≤ 1300)) (sym (c .before .before .factor .ensures)) (dynamic (st .pre .0))
 
   factor : (q : Question) → c .before .before .factor .result ≡ job .dynamic q
-  factor = factor-is (st .pre .0) (c .before .section .ensures) (c .spans .result) (counted .lane-count .ensures) (c .before .before .factor .ensures) (c .spans .ensures .1 .0)
+  factor = factor-is (st .pre .0) (c .before .before .factor .ensures)
 
 normal-requires : tie.Need-normal-requires
-normal-requires c κs = (fits c, hn-fit c)
+normal-requires c κs = (c .across-of .ensures .fits, limits c .0, limits c .1, hn-fit c)
 
 normal-requires-2 : tie.Need-normal-requires-2
 normal-requires-2 c κs = normal-requires (c .before) κs
 
 overload-requires : tie.Need-overload-requires
-overload-requires c κs = let d = c .before .before in (fits d, (hn-fit d, search (hn-wide d, ho-fit d)))
+overload-requires c κs = let d = c .before .before in (d .across-of .ensures .fits, limits d .0, limits d .1, hn-fit d, ho-fit d)
 
 overload-requires-2 : tie.Need-overload-requires-2
-overload-requires-2 c κs = let d = c .before .before .before in (fits d, (hn-fit d, search (hn-wide d, ho-fit d)))
+overload-requires-2 c κs = overload-requires (c .before) κs
 
 returns : tie.Need-returns
 returns c =
     let at = c .before .before .before .before in
-    let d = at .before .before .factor .result in
-    let ng = c .before .before .before .normal in
-    let nl = c .before .before .normal2 in
-    let og = c .before .overload in
-    let ol = c .overload2 in
+    let ng = c .before .before .before .normal .ensures in
+    let nl = c .before .before .normal2 .ensures in
+    let og = c .before .overload .ensures in
+    let ol = c .overload2 .ensures in
     record {
       normal = record {
-        greatest = normal-found Greatest (job at) d (hn at) (ng .result) (factor at Greatest) (hn-are at) (ng .ensures .1 (job at .deck) (over at));
-        least = normal-found Least (job at) d (hn at) (nl .result) (factor at Least) (hn-are at) (nl .ensures .1 (job at .deck) (over at));
-        nearGreatest = ng .ensures .0;
-        nearLeast = nl .ensures .0;
+        greatest = ng .1 (job at) (over at) (factor at Greatest) (hn-are at);
+        least = nl .1 (job at) (over at) (factor at Least) (hn-are at);
+        nearGreatest = ng .0;
+        nearLeast = nl .0;
       };
       overload = record {
-        greatest = overload-found Greatest (job at) d (hn at) (ho at) (og .result) (factor at Greatest) (hn-are at) (ho-are at) (og .ensures .1 (job at .deck) (over at));
-        least = overload-found Least (job at) d (hn at) (ho at) (ol .result) (factor at Least) (hn-are at) (ho-are at) (ol .ensures .1 (job at .deck) (over at));
-        nearGreatest = og .ensures .0;
-        nearLeast = ol .ensures .0;
+        greatest = og .1 (job at) (over at) (factor at Greatest) (hn-are at) (ho-are at);
+        least = ol .1 (job at) (over at) (factor at Least) (hn-are at) (ho-are at);
+        nearGreatest = og .0;
+        nearLeast = ol .0;
       };
       laneCount = over at .lanes;
     }
@@ -130,10 +119,9 @@ values-spec =
     effect-requires-2
     effect-requires-3
     effect-requires-4
-    lane-count-requires
     factor-requires
     section-requires
-    spans-requires
+    across-of-requires
     normal-requires
     normal-requires-2
     overload-requires

@@ -4,7 +4,7 @@ use native.Mathlib.Omega.{arith}
 use lib.ListN.{length}
 use mir.Syntax.{w64}
 use Rattle.exact.proofs.Held.{back}
-use Rattle.lanes.specs.Fits.{OrdinatesTo}
+use Rattle.lanes.specs.Transverse.{OrdinatesTo}
 use Rattle.lanes.specs.Candidates.{BestBefore}
 use Rattle.lanes.proofs.Ordinates.{ordinate-near, ordinates-left, ordinate-between, div-mono}
 use Rattle.lanes.proofs.Candidates.{limits-tried, next-tried}

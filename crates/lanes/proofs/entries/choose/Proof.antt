@@ -10,13 +10,14 @@ use Rattle.exact.proofs.Extremes.{beats-yes, beats-no}
 use Rattle.exact.proofs.Held.{Kept, arg, known, retold, beats-held, times, times! }
 use Rattle.lanes.specs.declared.centres.Centre.{Centre}
 use Rattle.lanes.specs.declared.centres.Span.{Span}
-use Rattle.lanes.specs.Entries.{bestOf, SpanNear}
+use Rattle.lanes.specs.Entries.{bestOf}
+use Rattle.lanes.specs.Spans.{SpanFits}
 use Rattle.lanes.proofs.Elements.{near-of}
 use Rattle.lanes.proofs.entries.choose.Statement.{statement}
 use Rattle.lanes.proofs.entries.choose.Tie as tie
 
 -- an ordinate as a call returned it
-abbrev ordinate : (x : Centre) (q : Question) (span : Span) → x ≡ bestOf q span → SpanNear span → Kept w64 250000 (bestOf q span .ordinate)
+abbrev ordinate : (x : Centre) (q : Question) (span : Span) → x ≡ bestOf q span → SpanFits span → Kept w64 250000 (bestOf q span .ordinate)
 ordinate x q span e h =
     (_, retold (known w64 {z = x .ordinate} (subst (λ (y : Centre). Within 250000 (y .ordinate)) (sym e) (near-of q span h)) (lit< tt)) (ap (λ (y : Centre). y .ordinate) e))
 

@@ -1,21 +1,28 @@
-use mathlib.Core.Path.{refl}
+use mathlib.Core.Path.{_≡_, _∙_, ap}
+use Prim.Native.Nat.{ℕ, _+_, _%_, _*_, _^_, _≤_, _<_}
+use native.Mathlib.Nat.{one-mul}
 use native.Mathlib.Omega.{arith}
+use lib.Dec.{lit<}
+use lib.Pow.{pow-mono, shl-exact}
 use borrow.Author.Needs.{needs}
-use Rattle.lanes.proofs.Powers.{power-is, power-small}
 use Rattle.lanes.proofs.sets.with.Statement.{statement}
 use Rattle.lanes.proofs.sets.with.Tie as tie
 
-mul-result : tie.Need-mul-result
-mul-result c = search needs
+cast-result : tie.Need-cast-result
+cast-result c = search needs
 
-array-read-result : tie.Need-array-read-result
-array-read-result c = search needs
+shl-result : tie.Need-shl-result
+shl-result c = search needs
+
+-- the lane's bit
+bit-is : (i : ℕ) → i < 5 → 1 * 2 ^ i % 2 ^ 32 ≡ 2 ^ i
+bit-is i h = shl-exact {a = 1} 1 i 32 (lit< tt) (omega arith) ∙ one-mul (2 ^ i)
 
 add-result : tie.Need-add-result
-add-result c = let h = power-small (c .args .i) (omega arith) in rw (power-is (c .args .i) (c .pre .0)) (omega arith)
+add-result c = rw (bit-is (c .args .i) (omega arith)) (let p = pow-mono {i = c .args .i} {j = 4} (omega arith) in omega arith)
 
 returns : tie.Need-returns
-returns c = rw (power-is (c .args .i) (c .pre .0)) refl
+returns c = ap (λ (x : ℕ). c .args .set + x) (bit-is (c .args .i) (omega arith))
 
 pub with-spec : {M : Type 1} → statement M
-with-spec = tie.close (tie.spec mul-result array-read-result add-result returns)
+with-spec = tie.close (tie.spec cast-result shl-result add-result returns)

@@ -3,7 +3,7 @@ use mathlib.Core.Bool.{Bool}
 use borrow.Author.Needs.{needs}
 use borrow.Author.Tests.{eq-eqb, ne-eqb}
 use Rattle.model.specs.Lanes.{bit}
-use Rattle.lanes.specs.Traffic.{laneBy}
+use Rattle.lanes.specs.Loadings.{laneBy}
 use Rattle.lanes.proofs.traffic.lane.Statement.{statement}
 use Rattle.lanes.proofs.traffic.lane.Tie as tie
 

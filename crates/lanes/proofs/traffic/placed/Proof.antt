@@ -4,7 +4,7 @@ use native.Mathlib.Omega.{arith}
 use lib.ListN.{getD}
 use Rattle.model.specs.Answered.{emptyLane}
 use Rattle.lanes.specs.Entries.{noElement}
-use Rattle.lanes.specs.Traffic.{laneOf}
+use Rattle.lanes.specs.Loadings.{laneOf}
 use Rattle.lanes.proofs.Filled.{FilledTo, filled-none, filled-more}
 use Rattle.lanes.proofs.traffic.placed.Statement.{statement}
 use Rattle.lanes.proofs.traffic.placed.Tie as tie

@@ -7,7 +7,7 @@ use Rattle.model.specs.Words.{wordAt}
 use Rattle.model.specs.Format.{spaces}
 
 -- width and spacing are within their limits, and the section has its M + 1 ordinates, each of at most 1000
-pub record AcrossFits (s : List ℕ) (w g : ℕ) : Type 0 where
+pub record TransverseFits (s : List ℕ) (w g : ℕ) : Type 0 where
   pub wide : 300 ≤ w
   pub narrow : w ≤ 2079
   pub apart : 10 ≤ g

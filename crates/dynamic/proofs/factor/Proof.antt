@@ -3,8 +3,8 @@ use native.Mathlib.Omega.{arith}
 use borrow.Author.Tests.{eq-eqb, ne-eqb}
 use borrow.Author.Needs.{needs}
 use Rattle.model.specs.Dynamic.{dynamicFactor}
-use Rattle.lanes.proofs.dynamic.factor.Statement.{statement}
-use Rattle.lanes.proofs.dynamic.factor.Tie as tie
+use Rattle.dynamic.proofs.factor.Statement.{statement}
+use Rattle.dynamic.proofs.factor.Tie as tie
 
 returns : tie.Need-returns
 unfolding dynamicFactor

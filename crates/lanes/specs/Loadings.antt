@@ -1,0 +1,86 @@
+-- A live kind's best loading in a job: each lane's element, the lanes of its placement, and its value.
+use mathlib.Core.Path.{_≡_}
+use mathlib.Core.Bool.{Bool}
+use mathlib.Core.List.{List}
+use Prim.Native.Nat.{ℕ, _≤_, _<_}
+use lib.IntN.{ℤ, pos}
+use lib.Signed.{_≤ℤ_}
+use lib.ListN.{length, getD}
+use lib.Dec.{eqb}
+use Rattle.exact.specs.Bounds.{Within}
+use Rattle.exact.specs.Choice.{if_then_else_}
+use Rattle.exact.specs.declared.Question.{Question}
+use Rattle.model.specs.Job.{Job, Live}
+use Rattle.model.specs.Line.{Kind, HN, HO, lineEffect}
+use Rattle.model.specs.Lanes.{bit, lanes}
+use Rattle.model.specs.Traffic.{laneEffect, bestSum, trafficValue}
+use Rattle.model.specs.Arrangements.{OverloadLanes}
+use Rattle.model.specs.Answered.{emptyLane, laneAt, setOf}
+use Rattle.model.specs.Placements.{BestCentre, EntryRight, placedLanes, placedSum}
+use Rattle.model.specs.declared.Sense.the-variants.{Raising, Lowering}
+use Rattle.model.specs.declared.Entry.the-variants.{Unloaded, Hn, Ho}
+use Rattle.model.specs.declared.Lane.{Lane}
+use Rattle.model.specs.declared.Extreme.{Extreme}
+use Rattle.lanes.specs.Spans.{Spanned}
+use Rattle.lanes.specs.Entries.{noElement}
+use Rattle.lanes.specs.Sets.{LoadingRight}
+use Rattle.lanes.specs.declared.centres.Across.{Across}
+use Rattle.lanes.specs.declared.entries.Chosen.{Chosen}
+use Rattle.lanes.specs.declared.sets.Loading.{Loading}
+use Rattle.lanes.specs.declared.traffic.Effects.{Effects}
+
+-- ---- line effects
+
+-- raising is not below 0, lowering not above, both at most b from 0
+pub record LineEffectsFit (b : ℕ) (e : Effects) : Type 0 where
+  pub up : pos 0 ≤ℤ e .raising
+  pub down : e .lowering ≤ℤ pos 0
+  pub raising : Within b (e .raising)
+  pub lowering : Within b (e .lowering)
+
+-- a kind's line effects in a job
+abbrev pub effectsOf : Job → Kind → Effects
+effectsOf job kind = record { raising = lineEffect (job .line) kind Raising; lowering = lineEffect (job .line) kind Lowering }
+
+-- ---- the lanes of a placement
+
+-- a lane by two tests, whether it is the HO lane and whether the set has it
+abbrev pub laneBy : (hn over : Chosen) → (isHo inSet : Bool) → Lane
+laneBy hn over isHo inSet =
+    if isHo then record { entry = Ho (over .sense); centre = over .centre }
+    else (if inSet then record { entry = Hn (hn .sense); centre = hn .centre } else emptyLane)
+
+-- lane i: HO in its lane, HN where the set has it
+abbrev pub laneOf : (set ho i : ℕ) → (hn over : Chosen) → Lane
+laneOf set ho i hn over = laneBy hn over (eqb i ho) (bit set i)
+
+-- n lanes by the set and the HO lane, and unloaded ones to five
+pub record LanesPlaced (set ho n : ℕ) (hn over : List Chosen) (lanes : List Lane) : Type 0 where
+  pub five : length lanes ≡ 5
+  pub each : (i : ℕ) → i < n → getD lanes i emptyLane ≡ laneOf set ho i (getD hn i noElement) (getD over i noElement)
+  pub past : (i : ℕ) → n ≤ i → getD lanes i emptyLane ≡ emptyLane
+
+-- ---- a traffic value
+
+-- an element of the kind in lane i gives the lane's best
+pub record ElementRight (q : Question) (job : Job) (kind : Kind) (i : ℕ) (c : Chosen) : Type 0 where
+  pub value : c .value ≡ laneEffect q job kind i
+  pub at : BestCentre q job kind (c .sense) i (c .centre)
+
+-- a live kind's best loading in a job, with the elements of its lanes
+pub record LoadingOf (q : Question) (job : Job) (live : Live) (across : Across) (dynamic : ℕ) (best : Loading) (hn ho : List Chosen) : Type 0 where
+  pub spanned : Spanned job across
+  pub factor : dynamic ≡ job .dynamic q
+  pub loading : LoadingRight q live (lanes job) (laneEffect q job HN) (laneEffect q job HO) best
+  pub underHn : (i : ℕ) → i < lanes job → ElementRight q job HN i (getD hn i noElement)
+  pub underHo : (i : ℕ) → i < lanes job → i ≡ best .lane → ElementRight q job HO i (getD ho i noElement)
+
+-- a placement of a live kind whose entries are each a best of their lane, and whose sum is the best sum
+pub record TrafficPlaced (q : Question) (job : Job) (live : Live) (x : Extreme) : Type 0 where
+  pub value : x .value ≡ trafficValue q job live
+  pub entries : (i : ℕ) → i < lanes job → EntryRight q job i (laneAt (x .placement) i .entry) (laneAt (x .placement) i .centre)
+  pub kinds : OverloadLanes live (placedLanes job HO (x .placement))
+  pub sum : placedSum q job (x .placement) ≡ bestSum q job live
+  pub set : x .placement .set ≡ setOf (x .placement .lanes)
+  pub onDeck : (i : ℕ) → lanes job ≤ i → laneAt (x .placement) i .entry ≡ Unloaded
+  pub idle : (i : ℕ) → laneAt (x .placement) i .entry ≡ Unloaded → laneAt (x .placement) i .centre ≡ 0
