@@ -2,7 +2,7 @@
 use mathlib.Core.Path.{_≡_, refl, sym, _∙_, ap, ap₂}
 use mathlib.Core.Bool.{Bool, true, false, not, _&&_, _||_, true≢false, and-eq-true-iff, or-true}
 use mathlib.Core.List.{List}
-use Prim.Native.Nat.{ℕ, zero, suc, _+_, _-_, _≤_, _<_}
+use Prim.Native.Nat.{ℕ, zero, suc, _+_, _-_, _*_, _≤_, _<_}
 use native.Mathlib.Decide.{decLe, ℕ-discrete}
 use native.Mathlib.Omega.{arith}
 use lib.Dec.{eqb}
@@ -13,7 +13,12 @@ use Rattle.exact.specs.Ranges.{anyTo}
 use Rattle.exact.proofs.Bridge.{by-test}
 use Rattle.exact.proofs.Ranges.{any-step, any-true, any-intro}
 use Rattle.model.specs.Chains.{recordEffect, nextRecord, step, walk, repeats, namesTwice}
-use Rattle.model.proofs.Chains.{ended}
+use Rattle.model.proofs.Chains.{Bounded, ended, long-repeats}
+use Rattle.chains.specs.Linked.{Linked}
+
+-- a section of n records, whose chains stay in it
+pub stays : {s : List ℕ} {n c : ℕ} → Linked s → 12 * c ≤ length s → length s ≡ 12 * n → Bounded s n c
+stays l h e = record { first = omega arith; next = λ c m k. omega (arith, l c m (omega arith)) }
 
 -- a walk from the next record is a step ahead
 walk-from : (s : List ℕ) (c j : ℕ) → walk s (step s c) j ≡ walk s c (suc j)
@@ -64,6 +69,14 @@ module _ (s : List ℕ) (c : ℕ) where
         | yes h ↦ true≢false (sym (and-eq-true-iff (not (eqb (walk s c i) 0)) _ .0 t .0) ∙ ap not (eq-eqb _ _ (ended s c j i z h)))
         | no h ↦ true≢false (sym (any-intro j again i (omega arith) t) ∙ e)
       ]
+
+  -- none before the chain has passed all n records: one only where it goes on
+  pub twice-beyond : (n : ℕ) → Bounded s n c → anyTo n again ≡ false → namesTwice s n c ≡ not (eqb (walk s c n) 0)
+  unfolding namesTwice
+  twice-beyond n m e = elim (ℕ-discrete (walk s c n) 0) [
+    | yes z ↦ never-twice n n z e ∙ sym (ap not (eq-eqb _ _ z))
+    | no long ↦ long-repeats s n c m long (recordEffect s) ∙ sym (ap not (ne-eqb _ _ long))
+  ]
 
   -- a repeat at step j
   pub twice : (most j : ℕ) → j ≤ most → ¬ (walk s c j ≡ 0) → named j (recordEffect s (walk s c j)) ≡ true → namesTwice s most c ≡ true

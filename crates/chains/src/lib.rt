@@ -53,14 +53,14 @@ pub fn ends(records: &[u8], c: usize, left: usize) -> bool
     ends(records, next(records, c), left - 1)
 }
 
-// Some two records of the chain from c name the same effect; the chain has at most so many records.
-pub fn names_twice(records: &[u8], c: usize, most: usize) -> bool
-    requires { ⌜ Linked (now records) × EffectsTo 16 (now records) × (12 * c ≤ length (now records)) × (walk (now records) c most ≡ 0) ⌝ }
-    ensures { λ r. ⌜ r ≡ namesTwice (now (records .entry)) most c ⌝ }
+// Some two records of the chain from c, in a section of so many, name the same effect; a chain that goes on after them all has come back to one.
+pub fn names_twice(records: &[u8], c: usize, count: usize) -> bool
+    requires { ⌜ Linked (now records) × EffectsTo 16 (now records) × (12 * c ≤ length (now records)) × (length (now records) ≡ 12 * count) ⌝ }
+    ensures { λ r. ⌜ r ≡ namesTwice (now (records .entry)) count c ⌝ }
 {
     let mut seen = [false; 17];
     let mut at = c;
-    for _ in 0..most {
+    for _ in 0..count {
         if at == 0 {
             return false;
         }
@@ -71,5 +71,5 @@ pub fn names_twice(records: &[u8], c: usize, most: usize) -> bool
         seen[e] = true;
         at = next(records, at);
     }
-    false
+    at != 0
 }

@@ -1,30 +1,34 @@
 -- The chains of a job whose words are within their limits.
-use mathlib.Core.Path.{_≡_, refl, sym, _∙_, ap, subst}
+use mathlib.Core.Path.{_≡_, sym, _∙_, ap, ap₂, subst}
 use mathlib.Core.Bool.{Bool, false, not, _||_}
-use mathlib.Core.Option.{none}
+use mathlib.Core.Option.{none, some}
 use mathlib.Core.List.{List}
 use Prim.Native.Nat.{ℕ, _+_, _-_, _*_, _≤_, _<_}
 use native.Mathlib.Omega.{arith}
 use lib.Dec.{eqb}
 use lib.ListN.{length}
-use borrow.Author.Tests.{eq-eqb, ne-eqb}
+use borrow.Author.Tests.{eq-eqb, ne-eqb, not-true}
+use Rattle.exact.specs.Choice.{if_then_else_}
 use Rattle.exact.proofs.Bridge.{by-test}
 use Rattle.model.specs.Words.{countAt}
-use Rattle.model.specs.Format.{headerOf, sectionOf}
+use Rattle.model.specs.Fields.{moved, misfit}
+use Rattle.model.specs.Format.{headerOf, start, sectionOf}
 use Rattle.model.specs.Chains.{nextRecord, walk, returns}
 use Rattle.model.specs.Decode.{firstRecord}
-use Rattle.model.specs.Refusals.{chainNamesTwice, fault6, fault7}
+use Rattle.model.specs.Refusals.{rowTests, rowFault, chainNamesTwice, fault6, fault7, fault8}
+use Rattle.model.proofs.Fits.{moved-none, first-fits}
 use Rattle.model.proofs.TableLimits.{row-fits, record-fits, no-return}
 use Rattle.model.proofs.HeaderLimits.{header-fits}
-use Rattle.model.proofs.Chains.{Bounded, returns-long, chain-ends}
+use Rattle.model.proofs.Chains.{Bounded, returns-long, chain-ends, names-none}
 use Rattle.model.specs.declared.Header.{Header}
 use Rattle.model.specs.declared.Part.the-variants.{Rows, Records}
 use Rattle.chains.specs.Linked.{Linked, EffectsTo}
 use Rattle.job.specs.declared.defects.Defect.{Defect}
-use Rattle.job.specs.declared.defects.Defect.the-variants.{Return, Repeat}
+use Rattle.job.specs.declared.defects.Defect.the-variants.{Repeat}
 use Rattle.job.specs.Sized.{Sized}
+use Rattle.job.specs.Defects.{isDefective, chainPasses}
 use Rattle.job.proofs.Sizes.{part-length}
-use Rattle.job.specs.Defects.{Repeats, isDefective, chainPasses}
+use Rattle.job.proofs.Scans.{answer-same}
 
 -- a chain ends within the count of records exactly if it does not come back
 pub returns-test : (s : List ℕ) (n f : ℕ) → Bounded s n f → returns s n f ≡ not (eqb (walk s f n) 0)
@@ -39,9 +43,22 @@ first-is b i e g =
     let k : 4 * i + 3 ≡ 4 * (i + 1 - 1) + 3 = omega arith in
     g ∙ ap (λ (rows : List ℕ). countAt rows (4 * i + 3)) e ∙ ap (countAt (sectionOf b Rows)) k
 
+-- tests that pass the same rows find the same
+rows-same : (b : List ℕ) {p q : ℕ → Bool} → ((i : ℕ) → i < headerOf b .rows → p i ≡ q i) → rowFault b p ≡ rowFault b q
+unfolding misfit
+rows-same b h = ap (moved (start (headerOf b) Rows)) (answer-same 0 (headerOf b .rows) _ _ (λ i _ l. ap (λ (t : Bool). moved (4 * i) (if t then none else some 0)) (h i (omega arith))))
+
+-- where no chain comes back, a test for effects named twice alone finds what refusal 8 finds
+pub repeats-alone : (b : List ℕ) → fault7 b ≡ none → fault8 b ≡ rowFault b (chainPasses Repeat b)
+unfolding fault8
+repeats-alone b c7 = rows-same b (λ i h. ap (λ (t : Bool). t || not (chainNamesTwice b (i + 1))) (no-return b c7 i h))
+
 module _ (b : List ℕ) {head : Header} (z : Sized b head) where
   records-long : length (sectionOf b Records) ≡ 12 * headerOf b .records
   records-long = let e = part-length z Records in omega arith
+
+  pub section-long : {records : List ℕ} {n : ℕ} → records ≡ sectionOf b Records → n ≡ headerOf b .records → length records ≡ 12 * n
+  section-long e k = omega (arith, ap length e, records-long, k)
 
   module _ (clear : fault6 b ≡ none) where
     next-most : (c : ℕ) → 1 ≤ c → c ≤ headerOf b .records → nextRecord (sectionOf b Records) c ≤ headerOf b .records
@@ -58,27 +75,23 @@ module _ (b : List ℕ) {head : Header} (z : Sized b head) where
         omega (arith, e, header-fits b (z .within) .effects .most)
 
     -- row i's first record is a record or 0, i counting from 0
-    pub first-most : (i : ℕ) → i < headerOf b .rows → firstRecord (sectionOf b Rows) (i + 1) ≤ headerOf b .records
+    first-most : (i : ℕ) → i < headerOf b .rows → firstRecord (sectionOf b Rows) (i + 1) ≤ headerOf b .records
     first-most i h =
         let e : 4 * i + 3 ≡ 4 * (i + 1 - 1) + 3 = omega arith in
         subst (λ (k : ℕ). countAt (sectionOf b Rows) k ≤ headerOf b .records) e (row-fits b clear i h .first .most)
 
-    pub bounded : (i : ℕ) → i < headerOf b .rows → Bounded (sectionOf b Records) (headerOf b .records) (firstRecord (sectionOf b Rows) (i + 1))
-    bounded i h = record { first = first-most i h; next = next-most }
+    -- where no chain names an effect twice, none comes back
+    pub none-returns : rowFault b (chainPasses Repeat b) ≡ none → fault7 b ≡ none
+    unfolding fault7
+    none-returns e = rows-same b (λ i h. ap not (names-none _ _ _ (record { first = first-most i h; next = next-most }) (once i h) ∙ sym (once i h))) ∙ e
+      where
+        once : (i : ℕ) → i < headerOf b .rows → chainNamesTwice b (i + 1) ≡ false
+        once i h = not-true _ (first-fits (rowTests (headerOf b .rows) (chainPasses Repeat b)) (sectionOf b Rows) (moved-none _ _ e) i h (omega arith))
 
     -- what the code requires and finds of row i's chain, where it has the record section, the first record and the count
     module _ (i : ℕ) (h : i < headerOf b .rows) {records : List ℕ} {f n : ℕ} (e : records ≡ sectionOf b Records) (g : f ≡ firstRecord (sectionOf b Rows) (i + 1)) (k : n ≡ headerOf b .records) where
-      on-chain : {A : Type 0} (q : List ℕ → ℕ → ℕ → A) → q records f n ≡ q (sectionOf b Records) (firstRecord (sectionOf b Rows) (i + 1)) (headerOf b .records)
-      on-chain q = ap (λ (s : List ℕ). q s f n) e ∙ ap (λ (c : ℕ). q (sectionOf b Records) c n) g ∙ ap (q (sectionOf b Records) (firstRecord (sectionOf b Rows) (i + 1))) k
-
       pub first-held : 12 * f ≤ length records
-      first-held = omega (arith, ap length e, records-long, g, first-most i h)
+      first-held = omega (arith, section-long e k, k, g, first-most i h)
 
-      pub ends : fault7 b ≡ none → walk records f n ≡ 0
-      ends c7 = on-chain walk ∙ chain-ends (sectionOf b Records) (headerOf b .records) (firstRecord (sectionOf b Rows) (i + 1)) (bounded i h) (no-return b c7 i h)
-
-      pub passes : (defect : Defect) → (Repeats defect → fault7 b ≡ none) → {r : Bool} → r ≡ isDefective defect records f n → chainPasses defect b i ≡ not r
-      passes Return c7 t =
-          ap not (returns-test (sectionOf b Records) (headerOf b .records) (firstRecord (sectionOf b Rows) (i + 1)) (bounded i h) ∙ sym (t ∙ on-chain (isDefective Return)))
-      passes Repeat c7 t =
-          ap (λ (x : Bool). x || not (chainNamesTwice b (i + 1))) (no-return b (c7 refl) i h) ∙ ap not (sym (t ∙ on-chain (isDefective Repeat)))
+      pub passes : (defect : Defect) {r : Bool} → r ≡ isDefective defect records n f → chainPasses defect b i ≡ not r
+      passes defect t = ap not (sym (t ∙ ap (λ (s : List ℕ). isDefective defect s n f) e ∙ ap₂ (isDefective defect (sectionOf b Records)) k g))

@@ -10,7 +10,7 @@ use lib.ListN.{length, getD}
 use borrow.Author.Tests.{ne-eqb}
 use Rattle.exact.specs.Choice.{if_then_else_}
 use Rattle.model.specs.Format.{headerOf, wordsDue}
-use Rattle.model.specs.Refusals.{Refusal, Test, _finds_, refuse, firstRefusal, jobTests, jobVerdict, fault1, fault2, fault3, fault6, fault7}
+use Rattle.model.specs.Refusals.{Refusal, Test, _finds_, refuse, firstRefusal, jobTests, jobVerdict, fault1, fault2, fault3, fault6}
 use Rattle.model.specs.declared.Header.{Header}
 use Rattle.model.proofs.Verdict.{has-header, size-fits}
 use Rattle.job.specs.declared.refusals.Ruling.{Ruling}
@@ -80,10 +80,6 @@ module _ {b : List ℕ} {head : Header} {number : ℕ} (passed : Passed b head n
   pub clear6 : 6 < number → fault6 b ≡ none
   unfolding jobTests
   clear6 h = passed .clear 6 (omega arith) h
-
-  pub clear7 : 7 < number → fault7 b ≡ none
-  unfolding jobTests
-  clear7 h = passed .clear 7 (omega arith) h
 
   pub header-there : 40 ≤ length b
   header-there = has-header b clear1

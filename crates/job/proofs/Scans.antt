@@ -1,5 +1,5 @@
 -- A search of the items of a section for the first that has a place at fault: how it goes on and ends.
-use mathlib.Core.Path.{_≡_, refl, _∙_, ap}
+use mathlib.Core.Path.{_≡_, refl, _∙_, ap, ap₂}
 use mathlib.Core.Option.{Option, none, some}
 use Prim.Native.Nat.{ℕ, zero, suc, _+_, _*_, _≤_, _<_}
 use native.Mathlib.Decide.{decLe}
@@ -21,6 +21,10 @@ answer-some i (suc n) f k r l m h e = elim (decLe k i) [
       ap (λ (o : Option ℕ). orElse o (firstAnswer (suc i) n f)) (h i (omega arith) (omega arith))
       ∙ answer-some (suc i) n f k r (omega arith) (omega arith) (λ j a b. h j (omega arith) b) e
 ]
+
+pub answer-same : (i n : ℕ) (f g : ℕ → Option ℕ) → ((k : ℕ) → i ≤ k → k < i + n → f k ≡ g k) → firstAnswer i n f ≡ firstAnswer i n g
+answer-same i zero f g h = refl
+answer-same i (suc n) f g h = ap₂ orElse (h i (omega arith) (omega arith)) (answer-same (suc i) n f g (λ k l m. h k (omega arith) (omega arith)))
 
 -- the search of n items stands at i, and no item before i has a place at fault
 pub record Searched (f : ℕ → Option ℕ) (n i : ℕ) : Type 0 where

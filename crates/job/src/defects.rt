@@ -3,11 +3,10 @@ ghost use mathlib.Core.Path.{_≡_};
 ghost use Prim.Native.Nat.{_*_, _≤_};
 ghost use mathlib.Core.Option.{none};
 ghost use lib.ListN.{length};
-ghost use Rattle.model.specs.Chains.{walk};
-ghost use Rattle.model.specs.Refusals.{fault6, fault7};
+ghost use Rattle.model.specs.Refusals.{fault6};
 ghost use Rattle.chains.specs.Linked.{Linked, EffectsTo};
 ghost use Rattle.job.specs.Sized.{placeOf, Sized};
-ghost use Rattle.job.specs.Defects.{Repeats, isDefective, firstDefective};
+ghost use Rattle.job.specs.Defects.{isDefective, firstDefective};
 use crate::limits::Fault;
 use crate::sections;
 use model::Header;
@@ -21,8 +20,8 @@ pub enum Defect {
 
 // The chain from a first record, in a section of so many, has the defect.
 fn is_defective(records: &[u8], first: usize, count: usize, defect: Defect) -> bool
-    requires { ⌜ Linked (now records) × EffectsTo 16 (now records) × (12 * first ≤ length (now records)) × (Repeats defect → walk (now records) first count ≡ 0) ⌝ }
-    ensures { λ r. ⌜ r ≡ isDefective defect (now (records .entry)) first count ⌝ }
+    requires { ⌜ Linked (now records) × EffectsTo 16 (now records) × (12 * first ≤ length (now records)) × (length (now records) ≡ 12 * count) ⌝ }
+    ensures { λ r. ⌜ r ≡ isDefective defect (now (records .entry)) count first ⌝ }
 {
     match defect {
         Defect::Return => !chains::ends(records, first, count),
@@ -32,7 +31,7 @@ fn is_defective(records: &[u8], first: usize, count: usize, defect: Defect) -> b
 
 // The first word of the first row whose chain has it, from the first row's on.
 pub(crate) fn first_row(s: &[u8], head: Header, defect: Defect) -> Fault
-    requires { ⌜ Sized (now s) head × (fault6 (now s) ≡ none) × (Repeats defect → fault7 (now s) ≡ none) ⌝ }
+    requires { ⌜ Sized (now s) head × (fault6 (now s) ≡ none) ⌝ }
     ensures { λ r. ⌜ placeOf r ≡ firstDefective defect (now (s .entry)) ⌝ }
 {
     let rows = sections::section(s, head, Part::Rows);

@@ -4,7 +4,7 @@ ghost use mathlib.Core.Option.{some};
 ghost use mathlib.Core.List.{[], _∷_};
 ghost use Prim.Native.Nat.{_+_, _*_, _≤_, _<_};
 ghost use lib.IntN.{pos, negℤ};
-ghost use lib.ListN.{length};
+ghost use lib.ListN.{length, drop};
 ghost use Rattle.exact.specs.Bounds.{Within};
 ghost use Rattle.exact.specs.Choice.{if_then_else_, between};
 ghost use Rattle.model.specs.Words.{wordAt};
@@ -109,20 +109,28 @@ fn dynamic_fits(s: &[u8]) -> bool
     in_range(s, 6, 0, 5000)
 }
 
+// The field at fault among the header's words 6 to 9: dynamic value, E, R, C.
+fn counts_misfit(s: &[u8], head: Header) -> Fault
+    requires { ⌜ 40 ≤ length (now s) ⌝ }
+    ensures { λ r. ⌜ placeOf r ≡ misfitFrom 6 (drop 6 (layout head Head .fields)) (itemFrom (now (s .entry)) 0 0) ⌝ }
+{
+    let records = field(9, in_range(s, 9, 0, 512), Fault::Clear);
+    let rows = field(8, in_range(s, 8, 1, 32), records);
+    let effects = field(7, in_range(s, 7, 0, 16), rows);
+    field(6, dynamic_fits(s), effects)
+}
+
 // The header's field at fault; its edition is tested before.
 pub(crate) fn header_misfit(s: &[u8], head: Header) -> Fault
     requires { ⌜ 40 ≤ length (now s) ⌝ }
     ensures { λ r. ⌜ placeOf r ≡ misfitFrom 0 (layout head Head .fields) (itemFrom (now (s .entry)) 0 0) ⌝ }
 {
-    let f9 = field(9, in_range(s, 9, 0, 512), Fault::Clear);
-    let f8 = field(8, in_range(s, 8, 1, 32), f9);
-    let f7 = field(7, in_range(s, 7, 0, 16), f8);
-    let f6 = field(6, dynamic_fits(s), f7);
-    let f5 = field(5, in_range(s, 5, 1, 3), f6);
-    let f4 = field(4, in_range(s, 4, 300, 2079), f5);
-    let f3 = field(3, in_range(s, 3, 10, 50), f4);
-    let f2 = field(2, pieces_fit(s), f3);
-    field(1, length_fits(s), f2)
+    let counts = counts_misfit(s, head);
+    let kind = field(5, in_range(s, 5, 1, 3), counts);
+    let width = field(4, in_range(s, 4, 300, 2079), kind);
+    let spacing = field(3, in_range(s, 3, 10, 50), width);
+    let pieces = field(2, pieces_fit(s), spacing);
+    field(1, length_fits(s), pieces)
 }
 
 // A piece: left and right ordinate.

@@ -6,9 +6,10 @@ ghost use lib.ListN.{length};
 ghost use Rattle.exact.specs.Choice.{orElse};
 ghost use Rattle.model.specs.Fields.{moved};
 ghost use Rattle.model.specs.Format.{headerOf, start, fault};
-ghost use Rattle.model.specs.Refusals.{fault1, fault2, fault3, fault4, fault5, fault6, fault7, fault8, jobVerdict};
+ghost use Rattle.model.specs.Refusals.{fault1, fault2, fault3, fault4, fault5, fault6, rowFault, jobVerdict};
 ghost use Rattle.model.specs.declared.Part.the-variants.{Line};
 ghost use Rattle.job.specs.Sized.{placeOf, Counted, Sized};
+ghost use Rattle.job.specs.Defects.{chainPasses};
 ghost use Rattle.job.specs.Rulings.{Rules, testOf, Passed};
 use crate::defects;
 use crate::defects::Defect;
@@ -134,33 +135,9 @@ fn table(s: &[u8], head: Header) -> Fault
     )
 }
 
-// 7: a chain comes back to a record.
-fn returning(s: &[u8], head: Header) -> Fault
-    requires { ⌜ Sized (now s) head × (fault6 (now s) ≡ none) ⌝ }
-    ensures { λ r. ⌜ placeOf r ≡ fault7 (now (s .entry)) ⌝ }
-{
-    in_job(
-        head,
-        Part::Rows,
-        defects::first_row(s, head, Defect::Return),
-    )
-}
-
-// 8: a chain names an effect twice.
-fn repeating(s: &[u8], head: Header) -> Fault
-    requires { ⌜ Sized (now s) head × (fault6 (now s) ≡ none) × (fault7 (now s) ≡ none) ⌝ }
-    ensures { λ r. ⌜ placeOf r ≡ fault8 (now (s .entry)) ⌝ }
-{
-    in_job(
-        head,
-        Part::Rows,
-        defects::first_row(s, head, Defect::Repeat),
-    )
-}
-
-// What the test of a number from 2 on finds, those before it having found nothing.
+// What the test of a number from 2 to 6 finds, those before it having found nothing.
 fn found(s: &[u8], head: Header, number: u32) -> Fault
-    requires { ⌜ Passed (now s) head number × (number ≤ 8) ⌝ }
+    requires { ⌜ Passed (now s) head number × (number ≤ 6) ⌝ }
     ensures { λ r. ⌜ placeOf r ≡ testOf (now (s .entry)) number .found ⌝ }
 {
     match number {
@@ -168,9 +145,38 @@ fn found(s: &[u8], head: Header, number: u32) -> Fault
         3 => count(s, head),
         4 => ordinates(s, head),
         5 => signs(s, head),
-        6 => table(s, head),
-        7 => returning(s, head),
-        _ => repeating(s, head),
+        _ => table(s, head),
+    }
+}
+
+// The first row whose chain has a defect.
+fn defective(s: &[u8], head: Header, defect: Defect) -> Fault
+    requires { ⌜ Sized (now s) head × (fault6 (now s) ≡ none) ⌝ }
+    ensures { λ r. ⌜ placeOf r ≡ rowFault (now (s .entry)) (chainPasses defect (now (s .entry))) ⌝ }
+{
+    in_job(head, Part::Rows, defects::first_row(s, head, defect))
+}
+
+// 7, a chain comes back to a record, and 8, one without a return names an effect twice, no test before having found anything.
+// One that comes back names an effect twice too: each chain is walked once for that, and only if one does is a return sought.
+fn by_chains(s: &[u8], head: Header) -> Ruling
+    requires { ⌜ Passed (now s) head 7 ⌝ }
+    ensures { λ r. ⌜ Rules r (jobVerdict (now (s .entry))) ⌝ }
+{
+    let repeating = defective(s, head, Defect::Repeat);
+    if let Fault::At(row) = repeating {
+        let returning = defective(s, head, Defect::Return);
+        if let Fault::At(place) = returning {
+            return Ruling { number: 7, place };
+        }
+        return Ruling {
+            number: 8,
+            place: row,
+        };
+    }
+    Ruling {
+        number: 0,
+        place: 0,
     }
 }
 
@@ -183,14 +189,11 @@ pub fn verdict(s: &[u8]) -> Ruling
         return Ruling { number: 1, place };
     }
     let head = header::read(s);
-    for number in 2..9 {
+    for number in 2..7 {
         let fault = found(s, head, number);
         if let Fault::At(place) = fault {
             return Ruling { number, place };
         }
     }
-    Ruling {
-        number: 0,
-        place: 0,
-    }
+    by_chains(s, head)
 }

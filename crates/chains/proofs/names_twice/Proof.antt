@@ -6,17 +6,17 @@ use native.Mathlib.Nat.{pos-of-ne-zero}
 use lib.ListN.{length, getD, length-set, getD-replicate}
 use Rattle.exact.specs.Ranges.{anyTo}
 use Rattle.model.specs.Chains.{recordEffect, nextRecord, walk}
-use Rattle.chains.proofs.Walks.{walk-more, walk-start, named, again, never-twice, twice, not-again, marked}
+use Rattle.chains.proofs.Walks.{stays, walk-more, walk-start, named, again, never-twice, twice-beyond, twice, not-again, marked}
 use Rattle.chains.proofs.names_twice.Statement.{statement}
 use Rattle.chains.proofs.names_twice.Tie as tie
 
 abbrev Inv-loop : tie.InvT-loop
-Inv-loop records c most seen₀ at₀ counter₀ seen at counter =
-    (counter ≤ most) × (at ≡ walk records c counter) × (12 * at ≤ length records) × (length seen ≡ 17)
+Inv-loop records c count seen₀ at₀ counter₀ seen at counter =
+    (counter ≤ count) × (at ≡ walk records c counter) × (12 * at ≤ length records) × (length seen ≡ 17)
     × ((e : ℕ) → e ≤ 16 → getD seen e false ≡ named records c counter e) × (anyTo counter (again records c) ≡ false)
 
 abbrev μ-loop : tie.MeasureT-loop
-μ-loop records c most seen₀ at₀ counter₀ seen at counter = most - counter
+μ-loop records c count seen₀ at₀ counter₀ seen at counter = count - counter
 
 loop-holds : tie.Need-loop-holds Inv-loop μ-loop
 loop-holds c =
@@ -28,7 +28,7 @@ returns : tie.Need-returns Inv-loop μ-loop
 returns c =
     let l = c .before .before .loop in
     let a = c .before .before .before .before .args in
-    sym (never-twice (a .records .now) (a .c) (a .most) (l .counter) (sym (l .inv .1) ∙ c .if1 .taken) (l .inv .5))
+    sym (never-twice (a .records .now) (a .c) (a .count) (l .counter) (sym (l .inv .1) ∙ c .if1 .taken) (l .inv .5))
 
 effect-requires : tie.Need-effect-requires Inv-loop μ-loop
 effect-requires c κs = (pos-of-ne-zero (c .if1 .left), c .before .before .loop .inv .2)
@@ -52,7 +52,7 @@ returns-2 c =
     let a = c .before .before .before .before .before .before .args in
     let e = c .before .effect .result in
     sym
-    (twice (a .records .now) (a .c) (a .most) (l .counter) (l .inv .0) (λ z. c .before .before .if1 .left (l .inv .1 ∙ z))
+    (twice (a .records .now) (a .c) (a .count) (l .counter) (l .inv .0) (λ z. c .before .before .if1 .left (l .inv .1 ∙ z))
     (subst (λ (k : ℕ). named (a .records .now) (a .c) (l .counter) k ≡ true) (read-is (c .before)) (sym (l .inv .4 e (at-most (c .before))) ∙ c .if2 .taken)))
 
 array-write-seen : tie.Need-array-write-seen Inv-loop μ-loop
@@ -95,8 +95,8 @@ returns-3 c =
     let l = c .before .loop in
     let s = c .before .before .before in
     let a = s .args in
-    let e : l .counter ≡ a .most = omega arith in
-    sym (never-twice (a .records .now) (a .c) (a .most) (a .most) (s .pre .3) (subst (λ (j : ℕ). anyTo j (again (a .records .now) (a .c)) ≡ false) e (l .inv .5)))
+    let e : l .counter ≡ a .count = omega arith in
+    rw (l .inv .1, e) (sym (twice-beyond (a .records .now) (a .c) (a .count) (stays (s .pre .0) (s .pre .2) (s .pre .3)) (subst (λ (j : ℕ). anyTo j (again (a .records .now) (a .c)) ≡ false) e (l .inv .5))))
 
 pub names-twice-spec : {M : Type 1} → statement M
 names-twice-spec =

@@ -19,7 +19,7 @@ use Rattle.job.specs.Sized.{Sized}
 use Rattle.job.specs.Defects.{chainPasses}
 use Rattle.job.proofs.Scans.{Searched, search-begins, search-goes-on, search-found, search-over}
 use Rattle.job.proofs.Sizes.{part-length}
-use Rattle.job.proofs.Linked.{linked, effects-few, first-is, first-held, ends, passes}
+use Rattle.job.proofs.Linked.{linked, effects-few, first-is, section-long, first-held, passes}
 use Rattle.job.proofs.defects.first_row.Statement.{statement}
 use Rattle.job.proofs.defects.first_row.Tie as tie
 
@@ -80,14 +80,14 @@ is-defective-requires c κs =
       subst Linked (sym s) (linked (b c) (z c) (clear c)),
       subst (EffectsTo 16) (sym s) (effects-few (b c) (z c) (clear c)),
       first-held (b c) (z c) (clear c) (i c) (here (c .before)) s (first c) (count c),
-      λ repeats. ends (b c) (z c) (clear c) (i c) (here (c .before)) s (first c) (count c) (st c .pre .2 repeats),
+      section-long (b c) (z c) s (count c),
     )
 
 -- the call's answer is row i's
 found : (c : tie.After-is-defective Inv-loop μ-loop) {t : Bool} → c .is-defective .result ≡ t → itemMisfit (rowTests (headerOf (b (c .before)) .rows) (chainPasses (st (c .before) .args .defect) (b (c .before))) .fields) (sectionOf (b (c .before)) Rows) (i (c .before)) ≡ (if t then some (4 * i (c .before)) else none)
 found c {t} e =
     let d = c .before in
-    let p = passes (b d) (z d) (clear d) (i d) (here (d .before)) (d .before .before .before .section2 .ensures) (first d) (count d) (st d .args .defect) (st d .pre .2) (c .is-defective .ensures) in
+    let p = passes (b d) (z d) (clear d) (i d) (here (d .before)) (d .before .before .before .section2 .ensures) (first d) (count d) (st d .args .defect) (c .is-defective .ensures) in
     rw (p, e) (by-test t (λ t. moved (4 * i d) (if not t then none else some 0) ≡ (if t then some (4 * i d) else none)) (λ _. ap some (add-zero (4 * i d))) (λ _. refl))
 
 mul-t14 : tie.Need-mul-t14 Inv-loop μ-loop

@@ -2,6 +2,8 @@ use mathlib.Core.Path.{sym, _∙_, ap}
 use mathlib.Core.Bool.{not}
 use Rattle.job.specs.declared.defects.Defect.{Defect}
 use Rattle.job.specs.Defects.{isDefective}
+use Rattle.chains.proofs.Walks.{stays}
+use Rattle.job.proofs.Linked.{returns-test}
 use borrow.Author.Needs.{needs}
 use Rattle.job.proofs.defects.is_defective.Statement.{statement}
 use Rattle.job.proofs.defects.is_defective.Tie as tie
@@ -16,17 +18,19 @@ enum-told-2 : tie.Need-enum-told-2
 enum-told-2 c = search needs
 
 names-twice-requires : tie.Need-names-twice-requires
-names-twice-requires c κs = let p = c .before .before .before .pre in (p .0, p .1, p .2, p .3 (c .enum-told2 .given .1))
+names-twice-requires c κs = search needs
 
 returns : tie.Need-returns
 returns c =
-    let a = c .before .before .before .before .args in
-    ap not (c .ends .ensures) ∙ ap (λ (d : Defect). isDefective d (a .records .now) (a .first) (a .count)) (sym (c .before .enum-told .given .1))
+    let st = c .before .before .before .before in
+    let a = st .args in
+    ap not (c .ends .ensures) ∙ sym (returns-test _ _ _ (stays (st .pre .0) (st .pre .2) (st .pre .3)))
+    ∙ ap (λ (d : Defect). isDefective d (a .records .now) (a .count) (a .first)) (sym (c .before .enum-told .given .1))
 
 returns-2 : tie.Need-returns-2
 returns-2 c =
     let a = c .before .before .before .before .args in
-    c .names-twice .ensures ∙ ap (λ (d : Defect). isDefective d (a .records .now) (a .first) (a .count)) (sym (c .before .enum-told2 .given .1))
+    c .names-twice .ensures ∙ ap (λ (d : Defect). isDefective d (a .records .now) (a .count) (a .first)) (sym (c .before .enum-told2 .given .1))
 
 pub is-defective-spec : {M : Type 1} → statement M
 is-defective-spec =

@@ -1,12 +1,12 @@
 use mathlib.Core.Path.{_≡_}
 use native.Mathlib.Omega.{arith}
 use Rattle.model.specs.Refusals.{jobTests}
-use Rattle.job.proofs.Rulings.{header-there, counts-there, sized-there, clear6, clear7}
+use Rattle.job.proofs.Rulings.{header-there, counts-there, sized-there}
 use Rattle.job.proofs.refusals.found.Statement.{statement}
 use Rattle.job.proofs.refusals.found.Tie as tie
 
--- the number that is left is 8
-last : (c : tie.At-match-rest) → c .before .before .args .number ≡ 8
+-- the number that is left is 6
+last : (c : tie.At-match-rest) → c .before .before .args .number ≡ 6
 last c = omega (arith, c .match .rest, c .before .before .pre .0 .first, c .before .before .pre .1)
 
 limits-requires : tie.Need-limits-requires
@@ -22,15 +22,7 @@ signs-requires : tie.Need-signs-requires
 signs-requires c κs = sized-there (c .before .before .pre .0) (omega (arith, c .match .keys4))
 
 table-requires : tie.Need-table-requires
-table-requires c κs = sized-there (c .before .before .pre .0) (omega (arith, c .match .keys5))
-
-returning-requires : tie.Need-returning-requires
-returning-requires c κs = (sized-there (c .before .before .pre .0) (omega (arith, c .match .keys6)), clear6 (c .before .before .pre .0) (omega (arith, c .match .keys6)))
-
-repeating-requires : tie.Need-repeating-requires
-repeating-requires c κs =
-    let p = c .before .before .pre .0 in
-    (sized-there p (omega (arith, last c)), clear6 p (omega (arith, last c)), clear7 p (omega (arith, last c)))
+table-requires c κs = sized-there (c .before .before .pre .0) (omega (arith, last c))
 
 returns : tie.Need-returns
 unfolding jobTests
@@ -50,15 +42,7 @@ returns-4 c = rw (c .before .match .keys4) (c .signs .ensures)
 
 returns-5 : tie.Need-returns-5
 unfolding jobTests
-returns-5 c = rw (c .before .match .keys5) (c .table .ensures)
-
-returns-6 : tie.Need-returns-6
-unfolding jobTests
-returns-6 c = rw (c .before .match .keys6) (c .returning .ensures)
-
-returns-7 : tie.Need-returns-7
-unfolding jobTests
-returns-7 c = rw (last (c .before)) (c .repeating .ensures)
+returns-5 c = rw (last (c .before)) (c .table .ensures)
 
 pub found-spec : {M : Type 1} → statement M
 found-spec =
@@ -69,12 +53,8 @@ found-spec =
     ordinates-requires
     signs-requires
     table-requires
-    returning-requires
-    repeating-requires
     returns
     returns-2
     returns-3
     returns-4
-    returns-5
-    returns-6
-    returns-7)
+    returns-5)

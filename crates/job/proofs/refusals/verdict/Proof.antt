@@ -1,19 +1,19 @@
-use mathlib.Core.Path.{refl, sym, _∙_, ap}
+use mathlib.Core.Path.{_≡_, sym, _∙_, ap, subst}
 use Prim.Native.Nat.{_-_, _≤_}
 use native.Mathlib.Omega.{arith}
 use Rattle.model.proofs.Verdict.{has-header}
 use Rattle.job.specs.Sized.{placeOf}
 use Rattle.job.specs.Rulings.{Passed}
-use Rattle.job.proofs.Rulings.{begins, ruled, frame-refuses, refuses, goes-on, accepts}
+use Rattle.job.proofs.Rulings.{begins, ruled, frame-refuses, refuses, goes-on}
 use borrow.Author.Needs.{needs}
 use Rattle.job.proofs.refusals.verdict.Statement.{statement}
 use Rattle.job.proofs.refusals.verdict.Tie as tie
 
 abbrev Inv-loop : tie.InvT-loop
-Inv-loop s head number₀ number = Passed s head number × (number ≤ 9)
+Inv-loop s head number₀ number = Passed s head number × (number ≤ 7)
 
 abbrev μ-loop : tie.MeasureT-loop
-μ-loop s head number₀ number = 9 - number
+μ-loop s head number₀ number = 7 - number
 
 frame-requires : tie.Need-frame-requires Inv-loop μ-loop
 frame-requires c κs = search needs
@@ -57,8 +57,11 @@ loop-less c = omega arith
 loop-again : tie.Need-loop-again Inv-loop μ-loop
 loop-again c = let k = c .before .before in (goes-on (k .before .before .loop .inv .0) (sym (k .found .ensures) ∙ ap placeOf (c .enum-told2 .given .1)), omega arith)
 
+by-chains-requires : tie.Need-by-chains-requires Inv-loop μ-loop
+by-chains-requires c κs = let e : c .before .loop .number ≡ 7 = omega arith in subst (Passed _ _) e (c .before .loop .inv .0)
+
 returns-3 : tie.Need-returns-3 Inv-loop μ-loop
-returns-3 c = record { says = sym (accepts (c .before .loop .inv .0) (omega arith)); blank = λ _. refl }
+returns-3 c = c .by-chains .ensures
 
 pub verdict-spec : {M : Type 1} → statement M
 verdict-spec =
@@ -79,4 +82,5 @@ verdict-spec =
     add-number
     loop-less
     loop-again
+    by-chains-requires
     returns-3)

@@ -1,17 +1,16 @@
-use mathlib.Core.Path.{_≡_, sym, _∙_, ap, subst}
-use Prim.Native.Nat.{ℕ, _<_}
+use mathlib.Core.Path.{sym, _∙_, ap, subst}
+use Prim.Native.Nat.{_<_}
 use Rattle.model.specs.Fields.{moved}
 use Rattle.model.specs.Format.{headerOf, words, start}
+use Rattle.model.specs.Refusals.{rowTests}
 use Rattle.model.specs.declared.Header.{Header}
 use Rattle.model.specs.declared.Part.the-variants.{Rows}
 use Rattle.model.proofs.Fits.{below}
-use Rattle.job.proofs.Sizes.{counts, few-words}
-use Rattle.model.specs.Refusals.{rowTests, fault8}
-use Rattle.job.specs.declared.defects.Defect.the-variants.{Repeat}
 use Rattle.job.specs.Defects.{firstDefective}
+use Rattle.job.proofs.Sizes.{counts, few-words}
 use borrow.Author.Needs.{needs}
-use Rattle.job.proofs.refusals.repeating.Statement.{statement}
-use Rattle.job.proofs.refusals.repeating.Tie as tie
+use Rattle.job.proofs.refusals.defective.Statement.{statement}
+use Rattle.job.proofs.refusals.defective.Tie as tie
 
 first-row-requires : tie.Need-first-row-requires
 first-row-requires c κs = search needs
@@ -22,12 +21,11 @@ in-job-requires c κs =
     (counts (st .pre .0), λ p e. few-words (st .args .head) Rows (counts (st .pre .0)) (subst (λ (h : Header). p < words h Rows) (sym (st .pre .0 .own)) (below (rowTests (headerOf (st .args .s .now) .rows) _) _ p (sym (c .first-row .ensures) ∙ e))))
 
 returns : tie.Need-returns
-unfolding fault8
 returns c =
     let st = c .before .before .before in
     c .in-job .ensures
     ∙ ap (moved (start (st .args .head) Rows)) (c .before .first-row .ensures)
-    ∙ ap (λ (h : Header). moved (start h Rows) (firstDefective Repeat (st .args .s .now))) (st .pre .0 .own)
+    ∙ ap (λ (h : Header). moved (start h Rows) (firstDefective (st .args .defect) (st .args .s .now))) (st .pre .0 .own)
 
-pub repeating-spec : {M : Type 1} → statement M
-repeating-spec = tie.close (tie.spec first-row-requires in-job-requires returns)
+pub defective-spec : {M : Type 1} → statement M
+defective-spec = tie.close (tie.spec first-row-requires in-job-requires returns)
