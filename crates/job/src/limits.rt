@@ -9,7 +9,7 @@ ghost use Rattle.exact.specs.Bounds.{Within};
 ghost use Rattle.exact.specs.Choice.{if_then_else_, between};
 ghost use Rattle.model.specs.Words.{wordAt};
 ghost use Rattle.model.specs.Fields.{range, oneOf, given, both, misfitFrom, itemFrom, misfit};
-ghost use Rattle.model.specs.Format.{is, reach, dynamicFits, layout, words};
+ghost use Rattle.model.specs.Format.{is, reach, dynamicFits, format, words};
 ghost use Rattle.model.specs.declared.Part.the-variants.{Head, Line, Transverse, Effects, Rows, Records};
 ghost use Rattle.job.specs.Sized.{placeOf, Counted};
 use crate::sections;
@@ -112,7 +112,7 @@ fn dynamic_fits(s: &[u8]) -> bool
 // The field at fault among the header's words 6 to 9: dynamic value, E, R, C.
 fn counts_misfit(s: &[u8], head: Header) -> Fault
     requires { ⌜ 40 ≤ length (now s) ⌝ }
-    ensures { λ r. ⌜ placeOf r ≡ misfitFrom 6 (drop 6 (layout head Head .fields)) (itemFrom (now (s .entry)) 0 0) ⌝ }
+    ensures { λ r. ⌜ placeOf r ≡ misfitFrom 6 (drop 6 (format head Head .fields)) (itemFrom (now (s .entry)) 0 0) ⌝ }
 {
     let records = field(9, in_range(s, 9, 0, 512), Fault::Clear);
     let rows = field(8, in_range(s, 8, 1, 32), records);
@@ -123,7 +123,7 @@ fn counts_misfit(s: &[u8], head: Header) -> Fault
 // The header's field at fault; its edition is tested before.
 pub(crate) fn header_misfit(s: &[u8], head: Header) -> Fault
     requires { ⌜ 40 ≤ length (now s) ⌝ }
-    ensures { λ r. ⌜ placeOf r ≡ misfitFrom 0 (layout head Head .fields) (itemFrom (now (s .entry)) 0 0) ⌝ }
+    ensures { λ r. ⌜ placeOf r ≡ misfitFrom 0 (format head Head .fields) (itemFrom (now (s .entry)) 0 0) ⌝ }
 {
     let counts = counts_misfit(s, head);
     let kind = field(5, in_range(s, 5, 1, 3), counts);
@@ -136,7 +136,7 @@ pub(crate) fn header_misfit(s: &[u8], head: Header) -> Fault
 // A piece: left and right ordinate.
 fn piece_misfit(s: &[u8], head: Header, i: usize) -> Fault
     requires { ⌜ 8 * i + 8 ≤ length (now s) ⌝ }
-    ensures { λ r. ⌜ placeOf r ≡ misfitFrom 0 (layout head Line .fields) (itemFrom (now (s .entry)) (2 * i) i) ⌝ }
+    ensures { λ r. ⌜ placeOf r ≡ misfitFrom 0 (format head Line .fields) (itemFrom (now (s .entry)) (2 * i) i) ⌝ }
 {
     let p = 2 * i;
     let right = field(1, within(s, p + 1, 5000), Fault::Clear);
@@ -146,7 +146,7 @@ fn piece_misfit(s: &[u8], head: Header, i: usize) -> Fault
 // A transverse ordinate.
 fn transverse_misfit(s: &[u8], head: Header, i: usize) -> Fault
     requires { ⌜ 4 * i + 4 ≤ length (now s) ⌝ }
-    ensures { λ r. ⌜ placeOf r ≡ misfitFrom 0 (layout head Transverse .fields) (itemFrom (now (s .entry)) (1 * i) i) ⌝ }
+    ensures { λ r. ⌜ placeOf r ≡ misfitFrom 0 (format head Transverse .fields) (itemFrom (now (s .entry)) (1 * i) i) ⌝ }
 {
     field(0, within(s, i, 1000), Fault::Clear)
 }
@@ -154,7 +154,7 @@ fn transverse_misfit(s: &[u8], head: Header, i: usize) -> Fault
 // An effect: value, mark.
 fn effect_misfit(s: &[u8], head: Header, i: usize) -> Fault
     requires { ⌜ 8 * i + 8 ≤ length (now s) ⌝ }
-    ensures { λ r. ⌜ placeOf r ≡ misfitFrom 0 (layout head Effects .fields) (itemFrom (now (s .entry)) (2 * i) i) ⌝ }
+    ensures { λ r. ⌜ placeOf r ≡ misfitFrom 0 (format head Effects .fields) (itemFrom (now (s .entry)) (2 * i) i) ⌝ }
 {
     let p = 2 * i;
     let mark = field(1, in_range(s, p + 1, 1, 2), Fault::Clear);
@@ -175,7 +175,7 @@ fn live_limit(s: &[u8], p: usize) -> usize
 // A row: limit state, live kind, live factor, first record.
 fn row_misfit(s: &[u8], head: Header, i: usize) -> Fault
     requires { ⌜ 16 * i + 16 ≤ length (now s) ⌝ }
-    ensures { λ r. ⌜ placeOf r ≡ misfitFrom 0 (layout head Rows .fields) (itemFrom (now (s .entry)) (4 * i) i) ⌝ }
+    ensures { λ r. ⌜ placeOf r ≡ misfitFrom 0 (format head Rows .fields) (itemFrom (now (s .entry)) (4 * i) i) ⌝ }
 {
     let p = 4 * i;
     let first = field(3, in_range(s, p + 3, 0, head.records), Fault::Clear);
@@ -187,7 +187,7 @@ fn row_misfit(s: &[u8], head: Header, i: usize) -> Fault
 // A record: effect, factor, next record.
 fn record_misfit(s: &[u8], head: Header, i: usize) -> Fault
     requires { ⌜ 12 * i + 12 ≤ length (now s) ⌝ }
-    ensures { λ r. ⌜ placeOf r ≡ misfitFrom 0 (layout head Records .fields) (itemFrom (now (s .entry)) (3 * i) i) ⌝ }
+    ensures { λ r. ⌜ placeOf r ≡ misfitFrom 0 (format head Records .fields) (itemFrom (now (s .entry)) (3 * i) i) ⌝ }
 {
     let p = 3 * i;
     let next = field(2, in_range(s, p + 2, 0, head.records), Fault::Clear);
@@ -197,8 +197,8 @@ fn record_misfit(s: &[u8], head: Header, i: usize) -> Fault
 
 // The field at fault of item i of a part.
 fn item_misfit(s: &[u8], head: Header, part: Part, i: usize) -> Fault
-    requires { ⌜ (i < layout head part .items) × (4 * words head part ≤ length (now s)) ⌝ }
-    ensures { λ r. ⌜ placeOf r ≡ misfitFrom 0 (layout head part .fields) (itemFrom (now (s .entry)) (length (layout head part .fields) * i) i) ⌝ }
+    requires { ⌜ (i < format head part .items) × (4 * words head part ≤ length (now s)) ⌝ }
+    ensures { λ r. ⌜ placeOf r ≡ misfitFrom 0 (format head part .fields) (itemFrom (now (s .entry)) (length (format head part .fields) * i) i) ⌝ }
 {
     match part {
         Part::Head => header_misfit(s, head),
@@ -213,7 +213,7 @@ fn item_misfit(s: &[u8], head: Header, part: Part, i: usize) -> Fault
 // The lowest place at fault in a part, given as its own bytes.
 pub fn misfit(s: &[u8], head: Header, part: Part) -> Fault
     requires { ⌜ Counted head × (4 * words head part ≤ length (now s)) ⌝ }
-    ensures { λ r. ⌜ placeOf r ≡ misfit (layout head part) (now (s .entry)) ⌝ }
+    ensures { λ r. ⌜ placeOf r ≡ misfit (format head part) (now (s .entry)) ⌝ }
 {
     for i in 0..sections::items(head, part) {
         let fault = item_misfit(s, head, part, i);

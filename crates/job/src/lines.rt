@@ -15,7 +15,7 @@ use crate::limits::Fault;
 
 // 0 for a word from -m to m, else 1.
 fn outside(x: i32, m: i32) -> u32
-    requires { ⌜ Within 5000 m ⌝ }
+    requires { ⌜ Within 1000000 m ⌝ }
     ensures { λ r. ⌜ (r ≤ 2) × (r ≡ 0 → between (negℤ m) m x ≡ true) ⌝ }
 {
     if x < -m {
@@ -29,7 +29,7 @@ fn outside(x: i32, m: i32) -> u32
 
 // How many of a section's words are outside -m to m.
 pub fn strays(s: &[u8], m: i32) -> u32
-    requires { ⌜ (length (now s) ≤ 8000) × Within 5000 m ⌝ }
+    requires { ⌜ (length (now s) ≤ 8000) × Within 1000000 m ⌝ }
     ensures { λ r. ⌜ (r ≡ 0 → AllWithin (now (s .entry)) m) ⌝ }
 {
     let mut sum: u32 = 0;

@@ -2,7 +2,7 @@
 ghost use mathlib.Core.Path.{_≡_};
 ghost use Prim.Native.Nat.{_*_, _≤_};
 ghost use lib.ListN.{length};
-ghost use Rattle.model.specs.Format.{layout, words, start, wordsDue, section, sectionOf};
+ghost use Rattle.model.specs.Format.{format, words, start, wordsDue, section, sectionOf};
 ghost use Rattle.model.specs.declared.Part.the-variants.{Head};
 ghost use Rattle.job.specs.Sized.{Counted, Sized};
 use model::Header;
@@ -10,7 +10,7 @@ use model::Part;
 
 // The words of an item.
 pub(crate) fn item_words(head: Header, part: Part) -> usize
-    ensures { λ r. ⌜ (r ≡ length (layout head part .fields)) × (r ≤ 10) ⌝ }
+    ensures { λ r. ⌜ (r ≡ length (format head part .fields)) × (r ≤ 10) ⌝ }
 {
     match part {
         Part::Head => 10,
@@ -25,7 +25,7 @@ pub(crate) fn item_words(head: Header, part: Part) -> usize
 // The number of items.
 pub(crate) fn items(head: Header, part: Part) -> usize
     requires { ⌜ Counted head ⌝ }
-    ensures { λ r. ⌜ (r ≡ layout head part .items) × (r ≤ 4294967296) ⌝ }
+    ensures { λ r. ⌜ (r ≡ format head part .items) × (r ≤ 4294967296) ⌝ }
 {
     match part {
         Part::Head => 1,

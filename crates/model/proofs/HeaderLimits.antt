@@ -15,7 +15,7 @@ use Rattle.exact.proofs.Bridge.{by-test, ≤→ℕ}
 use Rattle.exact.proofs.Tests.{leZ-true}
 use Rattle.model.specs.Words.{wordAt, countAt}
 use Rattle.model.specs.Fields.{free, itemFrom}
-use Rattle.model.specs.Format.{headerOf, is, dynamicFits, layout, sectionOf}
+use Rattle.model.specs.Format.{headerOf, is, dynamicFits, format, sectionOf}
 use Rattle.model.specs.Dynamic.{dynamicFactor}
 use Rattle.model.specs.Refusals.{fault2}
 use Rattle.model.specs.declared.Part.the-variants.{Head}
@@ -95,8 +95,8 @@ header-fits b e =
     word : (q : ℕ) → q < 10 → wordAt (sectionOf b Head) q ≡ wordAt b q
     word q h = let g : 0 + q ≡ q = omega arith in section-word b (headerOf b) Head q h ∙ ap (wordAt b) g
 
-    field : (q : ℕ) → q < 10 → getD (layout (headerOf b) Head .fields) q free (itemFrom (sectionOf b Head) 0 0) (wordAt (sectionOf b Head) (0 + q)) ≡ true
-    field q h = fits (layout (headerOf b) Head) (sectionOf b Head) (moved-none 0 _ (or-none _ none e .0)) 0 q (omega arith) h
+    field : (q : ℕ) → q < 10 → getD (format (headerOf b) Head .fields) q free (itemFrom (sectionOf b Head) 0 0) (wordAt (sectionOf b Head) (0 + q)) ≡ true
+    field q h = fits (format (headerOf b) Head) (sectionOf b Head) (moved-none 0 _ (or-none _ none e .0)) 0 q (omega arith) h
 
     count : (q lo hi : ℕ) → q < 10 → between (pos lo) (pos hi) (wordAt (sectionOf b Head) q) ≡ true → Count lo hi (wordAt b q)
     count q lo hi h t = between-count lo hi (wordAt b q) (rw (word q h) at t)

@@ -13,7 +13,7 @@ use Rattle.exact.specs.Bounds.{Within}
 use Rattle.exact.proofs.Order.{lt→le}
 use Rattle.exact.proofs.Tests.{ltZ-true, ltZ-false}
 use Rattle.model.specs.Words.{wordAt}
-use Rattle.model.specs.Format.{headerOf, layout, words, sectionOf}
+use Rattle.model.specs.Format.{headerOf, format, words, sectionOf}
 use Rattle.model.specs.Job.{Piece, InfluenceLine}
 use Rattle.model.specs.Decode.{decode}
 use Rattle.model.specs.Fields.{misfit}
@@ -25,7 +25,7 @@ use Rattle.model.proofs.Fits.{or-none, moved-none, fits, first-fits}
 -- ---- 4: ordinates
 module _ (b : List ℕ) (clear : fault4 b ≡ none) where
   -- neither line has a place at fault
-  ordinates : (misfit (layout (headerOf b) Line) (sectionOf b Line) ≡ none) × (misfit (layout (headerOf b) Transverse) (sectionOf b Transverse) ≡ none)
+  ordinates : (misfit (format (headerOf b) Line) (sectionOf b Line) ≡ none) × (misfit (format (headerOf b) Transverse) (sectionOf b Transverse) ≡ none)
   unfolding fault4
   ordinates = let r = or-none _ _ clear in (moved-none _ _ (r .0), moved-none _ _ (or-none _ none (r .1) .0))
 
@@ -35,15 +35,15 @@ module _ (b : List ℕ) (clear : fault4 b ≡ none) where
       let s = sectionOf b Line in
       let i = k / 2 in
       elim (decLe (k % 2) 0) [
-        | yes z ↦ let e : 2 * i ≡ k = omega arith in rw e at (between-within 5000 (wordAt s (2 * i)) (first-fits (layout (headerOf b) Line) s (ordinates .0) i (omega arith) (omega arith)))
-        | no z ↦ let e : 2 * i + 1 ≡ k = omega arith in rw e at (between-within 5000 (wordAt s (2 * i + 1)) (fits (layout (headerOf b) Line) s (ordinates .0) i 1 (omega arith) (omega arith)))
+        | yes z ↦ let e : 2 * i ≡ k = omega arith in rw e at (between-within 5000 (wordAt s (2 * i)) (first-fits (format (headerOf b) Line) s (ordinates .0) i (omega arith) (omega arith)))
+        | no z ↦ let e : 2 * i + 1 ≡ k = omega arith in rw e at (between-within 5000 (wordAt s (2 * i + 1)) (fits (format (headerOf b) Line) s (ordinates .0) i 1 (omega arith) (omega arith)))
       ]
 
   -- and its transverse ordinates from -1000 to 1000 thousandths
   pub transverse-within : (k : ℕ) → k < words (headerOf b) Transverse → Within 1000 (wordAt (sectionOf b Transverse) k)
   transverse-within k h =
       let e : 1 * k ≡ k = omega arith in
-      rw e at (between-within 1000 (wordAt (sectionOf b Transverse) (1 * k)) (first-fits (layout (headerOf b) Transverse) (sectionOf b Transverse) (ordinates .1) k (omega arith) (omega arith)))
+      rw e at (between-within 1000 (wordAt (sectionOf b Transverse) (1 * k)) (first-fits (format (headerOf b) Transverse) (sectionOf b Transverse) (ordinates .1) k (omega arith) (omega arith)))
 
 -- ---- 5: one sign
 -- a piece whose ordinates have one sign

@@ -11,7 +11,7 @@ use lib.ListN.{length}
 use Rattle.exact.specs.Choice.{orElse}
 use Rattle.model.specs.Fields.{Layout, wordsIn, moved, misfit}
 use Rattle.model.specs.Words.{wordAt}
-use Rattle.model.specs.Format.{headerOf, is, spaces, layout, words, start, wordsDue, sectionOf}
+use Rattle.model.specs.Format.{headerOf, is, spaces, format, words, start, wordsDue, sectionOf}
 use Rattle.model.specs.Refusals.{Refusal, _finds_, unless, signs, rowTests, chainReturns, chainNamesTwice, fault1, fault2, fault3, fault4, fault5, fault6, fault7, fault8, fault9, refuse, firstRefusal, jobTests, jobVerdict, verdict}
 use Rattle.model.specs.Answered.{Answered, refused, accepted}
 use Rattle.model.specs.declared.Answer.{Answer}
@@ -55,7 +55,7 @@ first b = unless-inside (leb 40 (length b) && eqb (length b % 4) 0 && is 1 (word
 
 second : (b : List ℕ) → Inside (fault2 b)
 unfolding fault2
-second b = else-inside _ none (moved-inside 0 10 (layout (headerOf b) Head) (sectionOf b Head) (omega arith) (omega arith)) none-inside
+second b = else-inside _ none (moved-inside 0 10 (format (headerOf b) Head) (sectionOf b Head) (omega arith) (omega arith)) none-inside
 
 module _ (b : List ℕ) (limits : fault2 b ≡ none) where
   due-small : wordsDue (headerOf b) ≤ 3915
@@ -77,8 +77,8 @@ module _ (b : List ℕ) (limits : fault2 b ≡ none) where
   fourth : Inside (fault4 b)
   unfolding fault4
   fourth =
-      else-inside _ _ (in-part Line (layout (headerOf b) Line) (omega arith) (omega arith))
-      (else-inside _ none (in-part Transverse (layout (headerOf b) Transverse) (omega arith) (omega arith)) none-inside)
+      else-inside _ _ (in-part Line (format (headerOf b) Line) (omega arith) (omega arith))
+      (else-inside _ none (in-part Transverse (format (headerOf b) Transverse) (omega arith) (omega arith)) none-inside)
 
   fifth : Inside (fault5 b)
   unfolding fault5
@@ -87,9 +87,9 @@ module _ (b : List ℕ) (limits : fault2 b ≡ none) where
   sixth : Inside (fault6 b)
   unfolding fault6
   sixth =
-      else-inside _ _ (in-part Effects (layout (headerOf b) Effects) (omega arith) (omega arith))
-      (else-inside _ _ (in-part Rows (layout (headerOf b) Rows) (omega arith) (omega arith))
-      (else-inside _ none (in-part Records (layout (headerOf b) Records) (omega arith) (omega arith)) none-inside))
+      else-inside _ _ (in-part Effects (format (headerOf b) Effects) (omega arith) (omega arith))
+      (else-inside _ _ (in-part Rows (format (headerOf b) Rows) (omega arith) (omega arith))
+      (else-inside _ none (in-part Records (format (headerOf b) Records) (omega arith) (omega arith)) none-inside))
 
   seventh : Inside (fault7 b)
   unfolding fault7

@@ -13,7 +13,7 @@ use Rattle.exact.specs.Parts.{up}
 use Rattle.exact.proofs.Bridge.{by-test}
 use Rattle.model.specs.Words.{wordAt, countAt}
 use Rattle.model.specs.Fields.{misfit}
-use Rattle.model.specs.Format.{headerOf, is, layout, sectionOf}
+use Rattle.model.specs.Format.{headerOf, is, format, sectionOf}
 use Rattle.model.specs.Refusals.{rowTests, chainReturns, chainNamesTwice, fault6, fault7, fault8}
 use Rattle.model.specs.declared.Header.{Header}
 use Rattle.model.specs.declared.Part.the-variants.{Effects, Rows, Records}
@@ -48,24 +48,24 @@ module _ (b : List ℕ) (clear : fault6 b ≡ none) (i : ℕ) where
   head = headerOf b
 
   -- none of the three parts has a place at fault
-  searches : (misfit (layout head Effects) (sectionOf b Effects) ≡ none) × (misfit (layout head Rows) (sectionOf b Rows) ≡ none) × (misfit (layout head Records) (sectionOf b Records) ≡ none)
+  searches : (misfit (format head Effects) (sectionOf b Effects) ≡ none) × (misfit (format head Rows) (sectionOf b Rows) ≡ none) × (misfit (format head Records) (sectionOf b Records) ≡ none)
   unfolding fault6
   searches = let r = or-none _ _ clear in let t = or-none _ _ (r .1) in (moved-none _ _ (r .0), moved-none _ _ (t .0), moved-none _ _ (or-none _ none (t .1) .0))
 
   -- effects are within their limits
   pub effect-fits : i < head .effects → EffectFits (sectionOf b Effects) i
   effect-fits h =
-      let field = fits (layout head Effects) (sectionOf b Effects) (searches .0) i in
-      record { value = between-within _ _ (first-fits (layout head Effects) _ (searches .0) i h (omega arith)); mark = between-count _ _ _ (field 1 h (omega arith)) }
+      let field = fits (format head Effects) (sectionOf b Effects) (searches .0) i in
+      record { value = between-within _ _ (first-fits (format head Effects) _ (searches .0) i h (omega arith)); mark = between-count _ _ _ (field 1 h (omega arith)) }
 
   -- and rows
   pub row-fits : i < head .rows → RowFits (sectionOf b Rows) (head .records) i
   row-fits h =
-      let field = fits (layout head Rows) (sectionOf b Rows) (searches .1) i in
+      let field = fits (format head Rows) (sectionOf b Rows) (searches .1) i in
       let live : Count 0 2 (wordAt (sectionOf b Rows) (4 * i + 1)) = between-count 0 2 _ (field 1 h (omega arith)) in
       let factor = factor-limit (wordAt (sectionOf b Rows) (4 * i + 1)) (wordAt (sectionOf b Rows) (4 * i + 2)) (live .is) (field 2 h (omega arith)) in
       record {
-        limit = between-count _ _ _ (first-fits (layout head Rows) _ (searches .1) i h (omega arith));
+        limit = between-count _ _ _ (first-fits (format head Rows) _ (searches .1) i h (omega arith));
         live = live;
         factor = factor .0;
         none = factor .1;
@@ -75,9 +75,9 @@ module _ (b : List ℕ) (clear : fault6 b ≡ none) (i : ℕ) where
   -- and records
   pub record-fits : i < head .records → RecordFits (sectionOf b Records) (head .effects) (head .records) i
   record-fits h =
-      let field = fits (layout head Records) (sectionOf b Records) (searches .2) i in
+      let field = fits (format head Records) (sectionOf b Records) (searches .2) i in
       record {
-        effect = between-count _ _ _ (first-fits (layout head Records) _ (searches .2) i h (omega arith));
+        effect = between-count _ _ _ (first-fits (format head Records) _ (searches .2) i h (omega arith));
         factor = between-count _ _ _ (field 1 h (omega arith));
         next = between-count _ _ _ (field 2 h (omega arith));
       }

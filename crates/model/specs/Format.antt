@@ -47,8 +47,8 @@ abbrev pub spaces : ℕ → ℕ → ℕ
 spaces w g = (w + g - 1) / g
 
 -- the table: so many items of these fields, a line a word
-abbrev pub layout : Header → Part → Layout
-layout head Head = 1 of
+abbrev pub format : Header → Part → Layout
+format head Head = 1 of
     free  -- edition: refusal 1 tests it
     ∷ oneOf (1 ∷ 2 ∷ 5 ∷ 10 ∷ 25 ∷ 50 ∷ [])  -- h
     ∷ both (range 1 1000) (given 1 reach)  -- N, with N times h at most 1000
@@ -60,24 +60,24 @@ layout head Head = 1 of
     ∷ range 1 32  -- R
     ∷ range 0 512  -- C
     ∷ []
-layout head Line = head .pieces of
+format head Line = head .pieces of
     within 5000  -- left ordinate, in U
     ∷ within 5000  -- right ordinate
     ∷ []
-layout head Transverse = spaces (head .width) (head .spacing) + 1 of
+format head Transverse = spaces (head .width) (head .spacing) + 1 of
     within 1000  -- ordinate in thousandths, the first at the left kerb
     ∷ []
-layout head Effects = head .effects of
+format head Effects = head .effects of
     within 1000000000  -- value in kN·U
     ∷ range 1 2  -- 1 always present, 2 may be left out
     ∷ []
-layout head Rows = head .rows of
+format head Rows = head .rows of
     range 1 2  -- 1 service, 2 ultimate
     ∷ range 0 2  -- live kind: 0 none, 1 normal, 2 overload
     ∷ given 1 (λ live. range 0 (if is 0 live then 0 else 3000))  -- live factor, 0 for kind 0
     ∷ range 0 (head .records)  -- first record
     ∷ []
-layout head Records = head .records of
+format head Records = head .records of
     range 1 (head .effects)  -- effect
     ∷ range 0 3000  -- factor
     ∷ range 0 (head .records)  -- next record
@@ -96,7 +96,7 @@ before Records = Head ∷ Line ∷ Transverse ∷ Effects ∷ Rows ∷ []
 
 -- a part's words
 abbrev pub words : Header → Part → ℕ
-words head part = wordsIn (layout head part)
+words head part = wordsIn (format head part)
 
 -- the words of some parts
 abbrev pub total : Header → List Part → ℕ
@@ -121,7 +121,7 @@ sectionOf b part = section b (headerOf b) part
 
 -- the lowest place at fault in a part, as a place of the job
 abbrev pub fault : List ℕ → Header → Part → Option ℕ
-fault b head part = moved (start head part) (misfit (layout head part) (section b head part))
+fault b head part = moved (start head part) (misfit (format head part) (section b head part))
 
 -- and in some parts, in order
 abbrev pub faultIn : List ℕ → Header → List Part → Option ℕ

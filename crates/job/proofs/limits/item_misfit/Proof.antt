@@ -2,15 +2,15 @@ use mathlib.Core.Path.{_≡_, subst}
 use Prim.Native.Nat.{_*_, _≤_, _<_}
 use native.Mathlib.Omega.{arith}
 use lib.ListN.{length}
-use Rattle.model.specs.Format.{layout, words}
+use Rattle.model.specs.Format.{format, words}
 use Rattle.model.specs.declared.Part.{Part}
 use borrow.Author.Needs.{needs}
 use Rattle.job.proofs.limits.item_misfit.Statement.{statement}
 use Rattle.job.proofs.limits.item_misfit.Tie as tie
 
 -- the item is in the section, of a part by name
-inside : (st : tie.Start) {part : Part} → st .args .part ≡ part → (st .args .i < layout (st .args .head) part .items) × (4 * words (st .args .head) part ≤ length (st .args .s .now))
-inside st e = subst (λ (part : Part). (st .args .i < layout (st .args .head) part .items) × (4 * words (st .args .head) part ≤ length (st .args .s .now))) e (st .pre)
+inside : (st : tie.Start) {part : Part} → st .args .part ≡ part → (st .args .i < format (st .args .head) part .items) × (4 * words (st .args .head) part ≤ length (st .args .s .now))
+inside st e = subst (λ (part : Part). (st .args .i < format (st .args .head) part .items) × (4 * words (st .args .head) part ≤ length (st .args .s .now))) e (st .pre)
 
 enum-told : tie.Need-enum-told
 enum-told c = search needs

@@ -4,7 +4,7 @@ use Prim.Native.Nat.{ℕ, _+_, _-_, _*_, _≤_}
 use native.Mathlib.Omega.{arith}
 use mathlib.Core.Option.{some}
 use Rattle.model.specs.Fields.{moved, itemMisfit, misfit}
-use Rattle.model.specs.Format.{layout}
+use Rattle.model.specs.Format.{format}
 use Rattle.job.specs.Sized.{placeOf}
 use Rattle.job.proofs.Sizes.{few-words}
 use Rattle.job.proofs.Scans.{Searched, search-begins, search-goes-on, search-found, search-over}
@@ -13,7 +13,7 @@ use Rattle.job.proofs.limits.misfit.Statement.{statement}
 use Rattle.job.proofs.limits.misfit.Tie as tie
 
 abbrev Inv-loop : tie.InvT-loop
-Inv-loop s head part i₀ i-end i = Searched (itemMisfit (layout head part .fields) s) (layout head part .items) i
+Inv-loop s head part i₀ i-end i = Searched (itemMisfit (format head part .fields) s) (format head part .items) i
 
 abbrev μ-loop : tie.MeasureT-loop
 μ-loop s head part i₀ i-end i = i-end - i
@@ -44,7 +44,7 @@ module _ (c : tie.After-item-words Inv-loop μ-loop) where
   abbrev place : ℕ
   place = c .item-words .result * item .before .before .loop .i + c .before .before .fault .given .0 .0
 
-  found : misfit (layout (st .args .head) (st .args .part)) (st .args .s .now) ≡ some place
+  found : misfit (format (st .args .head) (st .args .part)) (st .args .s .now) ≡ some place
   unfolding misfit
   found =
       let i = item .before .before .loop .i in
@@ -54,7 +54,7 @@ module _ (c : tie.After-item-words Inv-loop μ-loop) where
       ∙ ap (λ (w : ℕ). some (w * i + j)) (sym (c .item-words .ensures .0))
 
   small : place ≤ 42949672960
-  small = few-words (st .args .head) (st .args .part) (st .pre .0) (below (layout (st .args .head) (st .args .part)) _ place found)
+  small = few-words (st .args .head) (st .args .part) (st .pre .0) (below (format (st .args .head) (st .args .part)) _ place found)
 
 mul-t10 : tie.Need-mul-t10 Inv-loop μ-loop
 mul-t10 c = omega (arith, small c)

@@ -2,7 +2,7 @@ use mathlib.Core.Path.{sym, _∙_, ap}
 use native.Mathlib.Omega.{arith}
 use lib.ListN.{length}
 use Rattle.model.specs.Fields.{moved, misfit}
-use Rattle.model.specs.Format.{layout, words, start, sectionOf}
+use Rattle.model.specs.Format.{format, words, start, sectionOf}
 use Rattle.model.specs.declared.Header.{Header}
 use Rattle.model.proofs.Fits.{below}
 use Rattle.job.proofs.Sizes.{counts, part-length, few-words}
@@ -21,15 +21,15 @@ misfit-requires c κs =
 in-job-requires : tie.Need-in-job-requires
 in-job-requires c κs =
     let st = c .before .before .before in
-    (counts (st .pre), λ p e. few-words (st .args .head) (st .args .part) (counts (st .pre)) (below (layout (st .args .head) (st .args .part)) _ p (sym (c .misfit .ensures) ∙ e)))
+    (counts (st .pre), λ p e. few-words (st .args .head) (st .args .part) (counts (st .pre)) (below (format (st .args .head) (st .args .part)) _ p (sym (c .misfit .ensures) ∙ e)))
 
 returns : tie.Need-returns
 returns c =
     let st = c .before .before .before .before in
     let part = st .args .part in
     c .in-job .ensures
-    ∙ ap (moved (start (st .args .head) part)) (c .before .misfit .ensures ∙ ap (misfit (layout (st .args .head) part)) (c .before .before .section .ensures))
-    ∙ ap (λ (h : Header). moved (start h part) (misfit (layout h part) (sectionOf (st .args .s .now) part))) (st .pre .own)
+    ∙ ap (moved (start (st .args .head) part)) (c .before .misfit .ensures ∙ ap (misfit (format (st .args .head) part)) (c .before .before .section .ensures))
+    ∙ ap (λ (h : Header). moved (start h part) (misfit (format h part) (sectionOf (st .args .s .now) part))) (st .pre .own)
 
 pub fault-spec : {M : Type 1} → statement M
 fault-spec = tie.close (tie.spec section-requires misfit-requires in-job-requires returns)

@@ -4,7 +4,7 @@ use Prim.Native.Nat.{ℕ}
 use native.Mathlib.Omega.{arith}
 use lib.ListN.{length}
 use Rattle.model.specs.Fields.{misfitFrom, itemFrom, misfit}
-use Rattle.model.specs.Format.{layout, faultIn}
+use Rattle.model.specs.Format.{format, faultIn}
 use Rattle.model.specs.Refusals.{fault2}
 use Rattle.model.specs.declared.Header.{Header}
 use Rattle.model.specs.declared.Part.the-variants.{Head}
@@ -28,7 +28,7 @@ unfolding fault2 misfit
 returns c =
     let st = c .before .before .before in
     c .header-misfit .ensures
-    ∙ ap (λ (s : List ℕ). misfitFrom 0 (layout (st .args .head) Head .fields) (itemFrom s 0 0)) (c .before .header .ensures)
+    ∙ ap (λ (s : List ℕ). misfitFrom 0 (format (st .args .head) Head .fields) (itemFrom s 0 0)) (c .before .header .ensures)
     ∙ sym (only-item _)
     ∙ ap (λ (head : Header). faultIn (st .args .s .now) head (Head ∷ [])) (st .pre .0)
 

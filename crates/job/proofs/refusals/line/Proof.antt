@@ -3,7 +3,7 @@ use Prim.Native.Nat.{_*_}
 use native.Mathlib.Omega.{arith}
 use lib.ListN.{length}
 use Rattle.model.specs.Fields.{moved, misfit}
-use Rattle.model.specs.Format.{headerOf, layout, start}
+use Rattle.model.specs.Format.{headerOf, format, start}
 use Rattle.model.specs.declared.Part.the-variants.{Line}
 use Rattle.model.proofs.HeaderLimits.{header-fits}
 use Rattle.job.proofs.Sizes.{part-length}
@@ -27,7 +27,7 @@ returns c =
     let k = c .before .before in
     let b = k .before .before .args .s .now in
     let clear = all-within (headerOf b) _ (long k) (c .before .strays .ensures (c .if1 .taken)) in
-    sym (ap (moved (start (headerOf b) Line)) (ap (misfit (layout (headerOf b) Line)) (sym (k .section .ensures)) ∙ clear))
+    sym (ap (moved (start (headerOf b) Line)) (ap (misfit (format (headerOf b) Line)) (sym (k .section .ensures)) ∙ clear))
 
 fault-requires : tie.Need-fault-requires
 fault-requires c κs = search needs
