@@ -17,7 +17,7 @@ use Rattle.job.specs.Header.{headerOf, Sized}
 use Rattle.job.specs.declared.header.Header.{Header}
 use Rattle.job.proofs.Starts.{line-length, transverse-length}
 use Rattle.job.proofs.Rulings.{is-sized}
-use Rattle.line.specs.Fits.{LineFits}
+use Rattle.line.specs.LineFits.{LineFits}
 use Rattle.lanes.specs.Fits.{AcrossFits}
 use Rattle.rows.specs.Tables.{TablesFit}
 use Rattle.rows.specs.Governed.{StateFound}

@@ -9,7 +9,7 @@ use Rattle.exact.proofs.Ring.{_⊗_, _≐_, solve}
 use Rattle.model.specs.Job.{InfluenceLine}
 use Rattle.model.specs.Line.{Kind, axle, uniform, loadedSum, uniformPart, bestPair, lineEffect}
 use Rattle.model.specs.declared.Sense.{Sense}
-use Rattle.line.specs.Sought.{doubleArea, SoughtRight, EffectRight}
+use Rattle.line.specs.Sought.{doubleArea, EffectRight}
 use Rattle.line.specs.declared.effect.Sought.{Sought}
 
 -- the uniform load of whole pieces is 7 times their double area

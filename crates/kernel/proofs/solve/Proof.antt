@@ -17,7 +17,7 @@ use Rattle.model.proofs.Accepted.{clear, patch-fits}
 use Rattle.job.specs.declared.header.Header.{Header}
 use Rattle.job.specs.declared.refusals.Ruling.{Ruling}
 use Rattle.job.proofs.Rulings.{has-header}
-use Rattle.line.specs.Fits.{LineFits}
+use Rattle.line.specs.LineFits.{LineFits}
 use Rattle.line.proofs.Fitting.{fits-fewer}
 use Rattle.model.specs.declared.Account.{Account}
 use Rattle.kernel.specs.Parts.{Ready, PartsRight}
