@@ -1,18 +1,24 @@
 -- What is sought of a line for each sense, and the line effects of the kinds by it.
 use Prim.Native.Nat.{ℕ, _+_, _*_, _≤_}
 use mathlib.Core.Path.{_≡_}
+use lib.Dec.{eqb}
 use lib.IntN.{ℤ, pos, _*ℤ_}
+use Rattle.exact.specs.Choice.{if_then_else_}
 use Rattle.exact.specs.Bounds.{Within}
 use Rattle.exact.specs.Parts.{up}
 use Rattle.exact.specs.Ranges.{sumTo}
-use Rattle.model.specs.Job.{InfluenceLine}
-use Rattle.model.specs.Line.{Kind, axle, axleSpacing, sought, loadedSum, bestPair, lineEffect}
+use Rattle.model.specs.Job.{Piece, InfluenceLine}
+use Rattle.model.specs.Line.{Kind, axle, axleSpacing, sought, endSum, patchByte, loadedByte, bestPair, lineEffect}
 use Rattle.model.specs.Answered.{PositionRight}
 use Rattle.model.specs.declared.Sense.{Sense}
 use Rattle.model.specs.declared.Sense.the-variants.{Raising, Lowering}
 use Rattle.line.specs.PairPlaces.{placed, bestRank}
 use Rattle.line.specs.declared.effect.Sought.{Sought}
 use Rattle.line.specs.declared.effect.Senses.{Senses}
+
+-- a piece's ordinate sum where an element of the sense loads it, else 0
+abbrev pub loadedSum : Sense → Piece → ℤ
+loadedSum sense p = if eqb (patchByte p) (loadedByte sense) then endSum p else pos 0
 
 -- twice the line's area over a sense's whole pieces, in dm·U: h times (a + b) each
 unfoldable pub doubleArea : InfluenceLine → Sense → ℤ

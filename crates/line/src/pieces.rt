@@ -7,9 +7,9 @@ ghost use lib.ListN.{length, drop};
 ghost use Rattle.exact.specs.Bounds.{Within};
 ghost use Rattle.model.specs.Words.{wordAt};
 ghost use Rattle.model.specs.Decode.{pieceAt, influenceLine};
-ghost use Rattle.model.specs.Line.{endSum, patchByte, patchBytes, loadedByte, loadedSum};
+ghost use Rattle.model.specs.Line.{endSum, patchByte, patchBytes, loadedByte};
 ghost use Rattle.line.specs.LineFits.{WordFits, PieceFits, LineFits};
-ghost use Rattle.line.specs.Sought.{doubleArea};
+ghost use Rattle.line.specs.Sought.{loadedSum, doubleArea};
 
 // Word k of the line, an ordinate.
 pub(crate) fn ordinate(line: &[u8], k: usize) -> i32

@@ -7,8 +7,7 @@ use Rattle.exact.specs.Ranges.{sumTo}
 use Rattle.exact.proofs.Ranges.{sum-step}
 use Rattle.exact.proofs.Held.{told, Room, Held, Kept, lit, nat, got, loosen, cast, cast!, plus, plus!, times, times! }
 use Rattle.model.specs.Decode.{pieceAt}
-use Rattle.model.specs.Line.{loadedSum}
-use Rattle.line.specs.Sought.{doubleArea}
+use Rattle.line.specs.Sought.{loadedSum, doubleArea}
 use Rattle.line.proofs.Fitting.{fits-piece, area-room}
 use borrow.Author.Needs.{needs}
 use Rattle.line.proofs.pieces.double_area.Statement.{statement}
