@@ -11,7 +11,7 @@ use Rattle.model.specs.Job.{InfluenceLine}
 use Rattle.model.specs.Line.{along, ordinate, pair, axleSpacing, station}
 use Rattle.model.specs.declared.Side.{Side}
 use Rattle.model.specs.declared.Side.the-variants.{Left, Right}
-use Rattle.line.specs.Stands.{pairAt}
+use Rattle.line.specs.PairPlaces.{pairAt}
 
 module _ (line : InfluenceLine) where
   -- on the line: the left ordinate of the piece that starts at z, the right one of the piece that ends there

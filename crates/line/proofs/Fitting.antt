@@ -1,11 +1,17 @@
--- A line that fits has pieces that fit, and its loads are within their bounds.
+-- A line that fits has words and pieces that fit, and its loads are within their bounds.
 use Prim.Native.Nat.{ℕ, _+_, _*_, _≤_, _<_}
 use mathlib.Core.List.{List}
 use native.Mathlib.Omega.{arith}
-use Rattle.line.specs.Fits.{PieceFits, LineFits}
+use Rattle.line.specs.LineFits.{WordFits, PieceFits, LineFits}
+
+pub fits-word : {s : List ℕ} {n : ℕ} → LineFits s n → (k : ℕ) → k < 2 * n → WordFits s k
+fits-word f k h = record { room = omega (arith, f .room); near = f .near k h }
 
 pub fits-piece : {s : List ℕ} {n : ℕ} → LineFits s n → (i : ℕ) → i < n → PieceFits s i
-fits-piece f i h = record { room = omega (arith, f .room); left = f .near (2 * i) (omega arith); right = f .near (2 * i + 1) (omega arith) }
+fits-piece f i h = record { room = omega (arith, f .room); near = λ k a b. f .near k (omega arith) }
+
+pub piece-word : {s : List ℕ} {i : ℕ} → PieceFits s i → (k : ℕ) → 2 * i ≤ k → k ≤ 2 * i + 1 → WordFits s k
+piece-word f k a b = record { room = omega (arith, f .room); near = f .near k a b }
 
 -- fewer pieces fit too
 pub fits-fewer : {s : List ℕ} {m n : ℕ} → LineFits s n → m ≤ n → LineFits s m

@@ -1,5 +1,5 @@
 pub mod Fitting
 pub mod Marks
 pub mod Axles
-pub mod Standing
+pub mod Places
 pub mod Results

@@ -1,21 +1,25 @@
 -- A sense's area and best pair make a kind's line effect.
-use mathlib.Core.Path.{_≡_, _∙_, ap, ap₂}
-use Prim.Native.Nat.{_+_, _*_}
+use mathlib.Core.Path.{_≡_, sym, _∙_, ap, ap₂}
+use Prim.Native.Nat.{ℕ, _+_, _*_}
 use lib.IntN.{ℤ, pos, _+ℤ_, _*ℤ_}
 use Rattle.exact.specs.Bounds.{Within}
 use Rattle.exact.specs.Parts.{up}
 use Rattle.exact.specs.Ranges.{sumTo}
+use Rattle.exact.proofs.Ranges.{sum-scale}
 use Rattle.exact.proofs.Ring.{_⊗_, _≐_, solve}
 use Rattle.model.specs.Job.{InfluenceLine}
-use Rattle.model.specs.Line.{Kind, axle, uniform, loadedSum, uniformPart, bestPair, lineEffect}
+use Rattle.model.specs.Line.{Kind, axle, uniform, pieceLoad, uniformPart, bestPair, lineEffect}
 use Rattle.model.specs.declared.Sense.{Sense}
-use Rattle.line.specs.Sought.{doubleArea, SoughtRight, EffectRight}
+use Rattle.line.specs.Sought.{loadedSum, doubleArea, EffectRight}
 use Rattle.line.specs.declared.effect.Sought.{Sought}
 
--- the uniform load of whole pieces is 7 times their double area
+-- 7 times the double area of a sense's pieces is the sum of their loads
 uniform-area : (line : InfluenceLine) (sense : Sense) → uniform *ℤ doubleArea line sense ≡ uniformPart line sense
-unfolding doubleArea uniformPart
-uniform-area line sense = solve 3 (λ u h s. u ⊗ (h ⊗ s) ≐ u ⊗ h ⊗ s) tt uniform (pos (line .h)) (sumTo (line .pieces) (λ i. loadedSum sense (line .piece i)))
+unfolding doubleArea pieceLoad uniformPart
+uniform-area line sense =
+    let f : ℕ → ℤ = λ i. loadedSum sense (line .piece i) in
+    solve 3 (λ u h s. u ⊗ (h ⊗ s) ≐ u ⊗ h ⊗ s) tt uniform (pos (line .h)) (sumTo (line .pieces) f)
+    ∙ sym (sum-scale (line .pieces) (uniform *ℤ pos (line .h)) f)
 
 pub kind-effect : (kind : Kind) (s : Sought) {r : ℤ} → (r ≡ uniform *ℤ s .area +ℤ axle kind *ℤ s .pair) × Within (70000000 + up (axle kind) * 10000) r → EffectRight kind s r
 unfolding lineEffect

@@ -1,3 +1,3 @@
-pub mod Fits
-pub mod Stands
+pub mod LineFits
+pub mod PairPlaces
 pub mod Sought

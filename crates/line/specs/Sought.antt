@@ -1,36 +1,40 @@
 -- What is sought of a line for each sense, and the line effects of the kinds by it.
-use Prim.Native.Nat.{_+_, _*_}
+use Prim.Native.Nat.{ℕ, _+_, _*_, _≤_}
 use mathlib.Core.Path.{_≡_}
+use lib.Dec.{eqb}
 use lib.IntN.{ℤ, pos, _*ℤ_}
+use Rattle.exact.specs.Choice.{if_then_else_}
 use Rattle.exact.specs.Bounds.{Within}
 use Rattle.exact.specs.Parts.{up}
 use Rattle.exact.specs.Ranges.{sumTo}
-use Rattle.model.specs.Job.{InfluenceLine}
-use Rattle.model.specs.Line.{Kind, axle, loadedSum, bestPair, lineEffect}
+use Rattle.model.specs.Job.{Piece, InfluenceLine}
+use Rattle.model.specs.Line.{Kind, axle, axleSpacing, sought, endSum, patchByte, loadedByte, bestPair, lineEffect}
 use Rattle.model.specs.Answered.{PositionRight}
 use Rattle.model.specs.declared.Sense.{Sense}
 use Rattle.model.specs.declared.Sense.the-variants.{Raising, Lowering}
-use Rattle.line.specs.declared.pieces.Areas.{Areas}
+use Rattle.line.specs.PairPlaces.{placed, bestRank}
 use Rattle.line.specs.declared.effect.Sought.{Sought}
 use Rattle.line.specs.declared.effect.Senses.{Senses}
+
+-- a piece's ordinate sum where an element of the sense loads it, else 0
+abbrev pub loadedSum : Sense → Piece → ℤ
+loadedSum sense p = if eqb (patchByte p) (loadedByte sense) then endSum p else pos 0
 
 -- twice the line's area over a sense's whole pieces, in dm·U: h times (a + b) each
 unfoldable pub doubleArea : InfluenceLine → Sense → ℤ
 doubleArea line sense = pos (line .h) *ℤ sumTo (line .pieces) (λ i. loadedSum sense (line .piece i))
 
--- a sense's area
-abbrev pub areaFor : Sense → Areas → ℤ
-areaFor Raising a = a .raising
-areaFor Lowering a = a .lowering
-
--- each sense's area is the definition's
-abbrev pub AreasRight : InfluenceLine → Areas → Type 0
-AreasRight line a = (sense : Sense) → (areaFor sense a ≡ doubleArea line sense) × Within 10000000 (areaFor sense a)
-
 -- its numbers go on into arithmetic
 pub record SoughtNear (s : Sought) : Type 0 where
   pub area : Within 10000000 (s .area)
   pub pair : Within 10000 (s .pair)
+
+-- a sense's area, and the best rank of its question over all places of the pair
+pub record Found (line : InfluenceLine) (sense : Sense) (a r : ℤ) : Type 0 where
+  pub area : a ≡ doubleArea line sense
+  pub rank : r ≡ bestRank (sought sense) (placed line) (2 * (line .pieces + axleSpacing line) + 1)
+  pub few : line .pieces + axleSpacing line ≤ 1050
+  pub near : (p : ℕ) → Within 10000 (placed line p)
 
 -- the sense's area and best pair, with a position that gives it
 pub record SoughtRight (line : InfluenceLine) (sense : Sense) (s : Sought) : Type 0 where

@@ -1,17 +1,20 @@
 // What each sense seeks of the line, and the line effect of an element by it.
 use crate::pair;
-use crate::pair::Stand;
 use crate::pieces;
+use exact::Question;
 use model::Position;
+use model::Sense;
 ghost use mathlib.Core.Path.{_≡_};
-ghost use Prim.Native.Nat.{_+_, _*_, _/_, _≤_};
-ghost use lib.IntN.{pos, _+ℤ_, _-ℤ_, _*ℤ_};
+ghost use Prim.Native.Nat.{_+_, _*_, _≤_};
+ghost use lib.IntN.{pos, _+ℤ_, _*ℤ_};
 ghost use lib.Signed.{_≤ℤ_};
 ghost use Rattle.exact.specs.Parts.{up};
 ghost use Rattle.exact.specs.Bounds.{Within};
+ghost use Rattle.model.specs.Job.{InfluenceLine};
 ghost use Rattle.model.specs.Decode.{influenceLine};
-ghost use Rattle.line.specs.Fits.{LineFits};
-ghost use Rattle.line.specs.Sought.{SoughtNear, SensesRight};
+ghost use Rattle.model.specs.Line.{sought as soughtBy};
+ghost use Rattle.line.specs.LineFits.{LineFits};
+ghost use Rattle.line.specs.Sought.{Found, SoughtNear, SoughtRight, SensesRight};
 
 // Of a sense: twice the line's area over the pieces that it loads, in dm·U; its best pair of ordinates, and the pair's position.
 pub struct Sought {
@@ -20,11 +23,22 @@ pub struct Sought {
     pub position: Position,
 }
 
-// By the area and the stand of the pair.
-fn sought_at(area: i64, stand: Stand, h: usize) -> Sought
-    requires { ⌜ (1 ≤ h) × (stand .station ≤ 1050) ⌝ }
-    ensures { λ r. ⌜ r ≡ record { area = area; pair = stand .value; position = record { station = pos (stand .station) -ℤ pos (50 / h); side = stand .side } } ⌝ }
+// What a sense asks of the pair's ordinates.
+fn question(sense: Sense) -> Question
+    ensures { λ r. ⌜ r ≡ soughtBy sense ⌝ }
 {
+    match sense {
+        Sense::Raising => Question::Greatest,
+        Sense::Lowering => Question::Least,
+    }
+}
+
+// What a sense seeks, by its area and the best rank of its question.
+fn sought_at(sense: Sense, area: i64, rank: i32, h: usize) -> Sought
+    requires { ⌜ (1 ≤ h) × Within 10000000 area × (pos 0 ≤ℤ rank) ⌝ }
+    ensures { λ r. ⌜ ((line : InfluenceLine) → line .h ≡ h → Found line sense area rank → SoughtRight line sense r) ⌝ }
+{
+    let stand = pair::stand_of(question(sense), rank);
     let side = stand.side;
     let position = Position {
         station: (stand.station as i64) - (pair::spacing(h) as i64),
@@ -43,19 +57,18 @@ pub struct Senses {
     pub lowering: Sought,
 }
 
-// On a line of n pieces.
+// What both seek on a line of n pieces.
 pub fn seek(line: &[u8], h: usize, n: usize) -> Senses
     requires { ⌜ LineFits (now line) n ⌝ }
     requires { ⌜ (1 ≤ h) × ((h ≤ 50) × (n * h ≤ 1000)) ⌝ }
     ensures { λ r. ⌜ SensesRight (influenceLine (now (line .entry)) h n) r ⌝ }
 {
-    let areas = pieces::double_areas(line, h, n);
-    let range = pair::best(line, h, n);
-    let greatest = range.greatest;
-    let least = range.least;
+    let ranks = pair::best_ranks(line, h, n);
+    let raised = pieces::double_area(line, h, n, Sense::Raising);
+    let lowered = pieces::double_area(line, h, n, Sense::Lowering);
     Senses {
-        raising: sought_at(areas.raising, greatest, h),
-        lowering: sought_at(areas.lowering, least, h),
+        raising: sought_at(Sense::Raising, raised, ranks.greatest, h),
+        lowering: sought_at(Sense::Lowering, lowered, ranks.least, h),
     }
 }
 

@@ -1,17 +1,18 @@
-// The axle pair: its ordinates at a station, and its best position. A station of the pair is its right axle's, in pieces from the line's left end.
+// The axle pair: its best position. A station of the pair is its right axle's, in pieces from the line's left end.
+// Its places count stations and sides: place p is station p / 2, from the left where p is even. There an axle counts the line's word p - 1.
+use crate::pieces;
 use exact::Question;
 use model::Side;
 ghost use mathlib.Core.Path.{_≡_};
-ghost use Prim.Native.Nat.{ℕ, _+_, _/_, _≤_};
-ghost use lib.IntN.{pos};
+ghost use Prim.Native.Nat.{ℕ, _+_, _-_, _*_, _/_, _≤_, _<_};
+ghost use lib.IntN.{ℤ, pos};
+ghost use lib.Signed.{_≤ℤ_};
 ghost use Rattle.exact.specs.Bounds.{Within};
-ghost use Rattle.exact.specs.Choice.{if_then_else_};
-ghost use Rattle.exact.specs.Questions.{beats as beatsFor, extreme};
+ghost use Rattle.exact.specs.Questions.{better};
 ghost use Rattle.exact.specs.declared.Question.{Question};
 ghost use Rattle.model.specs.Decode.{influenceLine};
-ghost use Rattle.model.specs.Line.{ordinate as ordinateAt};
-ghost use Rattle.line.specs.Fits.{LineFits};
-ghost use Rattle.line.specs.Stands.{pairAt, betterSide, standFor, RangeRight};
+ghost use Rattle.line.specs.LineFits.{LineFits};
+ghost use Rattle.line.specs.PairPlaces.{sideAt, placed, standOf, turned, rankOf, rankFor, RanksRight, countOf, CountFits};
 
 // The pair's axles are 50 dm apart: so many pieces.
 pub(crate) fn spacing(h: usize) -> usize
@@ -21,54 +22,12 @@ pub(crate) fn spacing(h: usize) -> usize
     50 / h
 }
 
-// The ordinate just right of station z.
-fn right_of(line: &[u8], n: usize, z: usize) -> i64
-    requires { ⌜ LineFits (now line) n ⌝ }
-    ensures { λ r. ⌜ ((h : ℕ) → r ≡ ordinateAt (influenceLine (now (line .entry)) h n) 1 (pos z) Side.Right) × Within 5000 r ⌝ }
-{
-    if z < n {
-        return words::word(line, 2 * z);
-    }
-    0
-}
-
-// The ordinate just left of station z.
-fn left_of(line: &[u8], n: usize, z: usize) -> i64
-    requires { ⌜ LineFits (now line) n ⌝ }
-    ensures { λ r. ⌜ ((h : ℕ) → r ≡ ordinateAt (influenceLine (now (line .entry)) h n) 1 (pos z) Side.Left) × Within 5000 r ⌝ }
-{
-    if z == 0 {
-        return 0;
-    }
-    if z - 1 < n {
-        return words::word(line, 2 * (z - 1) + 1);
-    }
-    0
-}
-
-// The ordinate that an axle at station z counts from its side.
-fn ordinate(line: &[u8], n: usize, z: usize, side: Side) -> i64
-    requires { ⌜ LineFits (now line) n ⌝ }
-    ensures { λ r. ⌜ ((h : ℕ) → r ≡ ordinateAt (influenceLine (now (line .entry)) h n) 1 (pos z) side) × Within 5000 r ⌝ }
-{
-    match side {
-        Side::Left => left_of(line, n, z),
-        Side::Right => right_of(line, n, z),
-    }
-}
-
-// The pair's ordinates at station s.
-fn ordinates(line: &[u8], h: usize, n: usize, s: usize, side: Side) -> i64
-    requires { ⌜ LineFits (now line) n ⌝ }
+// So many places, a side of a station each.
+fn places_apart(h: usize) -> usize
     requires { ⌜ 1 ≤ h ⌝ }
-    ensures { λ r. ⌜ (r ≡ pairAt (influenceLine (now (line .entry)) h n) s side) × Within 10000 r ⌝ }
+    ensures { λ r. ⌜ (r ≡ 2 * (50 / h)) × (r ≤ 100) ⌝ }
 {
-    let d = spacing(h);
-    let ahead = ordinate(line, n, s, side);
-    if s < d {
-        return ahead;
-    }
-    ordinate(line, n, s - d, side) + ahead
+    2 * spacing(h)
 }
 
 // The pair's ordinates, with its station and side.
@@ -78,82 +37,132 @@ pub struct Stand {
     pub side: Side,
 }
 
-// The better of two, the first at a tie; taken field by field, so that the search copies no struct.
-fn choose(q: Question, a: Stand, b: Stand) -> Stand
-    ensures { λ r. ⌜ r ≡ (if beatsFor q (b .value) (a .value) then b else a) ⌝ }
+// A place as a rank has it, and a rank's as a place.
+fn turn(q: Question, place: usize) -> usize
+    requires { ⌜ place ≤ 4095 ⌝ }
+    ensures { λ r. ⌜ (r ≡ turned q place) × (r ≤ 4095) ⌝ }
 {
-    if exact::beats(q, b.value, a.value) {
-        let side = b.side;
-        return Stand {
-            value: b.value,
-            station: b.station,
-            side,
-        };
-    }
-    let side = a.side;
-    Stand {
-        value: a.value,
-        station: a.station,
-        side,
+    match q {
+        Question::Greatest => 4095 - place,
+        Question::Least => place,
     }
 }
 
-// Where the pair's ordinates are greatest and where they are least.
-pub struct Range {
-    pub greatest: Stand,
-    pub least: Stand,
+// Ordinates and their place in one number: the better ordinates, at a tie the lower place, have the better number.
+fn rank(q: Question, v: i32, place: usize) -> i32
+    requires { ⌜ Within 10000 v × (place ≤ 4095) ⌝ }
+    ensures { λ r. ⌜ (r ≡ rankOf q v place) × Within 82000000 r ⌝ }
+{
+    4096 * (10000 + v) + (turn(q, place) as i32)
 }
 
-// The range that two make, the first at a tie.
-fn wider(a: Range, b: Range) -> Range
-    ensures { λ r. ⌜ ((q : Question) → standFor q r ≡ (if beatsFor q (standFor q b .value) (standFor q a .value) then standFor q b else standFor q a)) ⌝ }
+// The better of the best rank so far and that of one place more, with the pair's ordinates there.
+fn improved(q: Question, best: i32, v: i32, place: usize) -> i32
+    requires { ⌜ Within 10000 v × (place ≤ 4095) ⌝ }
+    ensures { λ r. ⌜ r ≡ better q best (rankOf q v place) ⌝ }
 {
-    Range {
-        greatest: choose(Question::Greatest, a.greatest, b.greatest),
-        least: choose(Question::Least, a.least, b.least),
-    }
-}
-
-// The pair at station s, from one side.
-fn at_side(line: &[u8], h: usize, n: usize, s: usize, side: Side) -> Range
-    requires { ⌜ LineFits (now line) n ⌝ }
-    requires { ⌜ 1 ≤ h ⌝ }
-    ensures { λ r. ⌜ RangeRight (influenceLine (now (line .entry)) h n) s (λ q. pairAt (influenceLine (now (line .entry)) h n) s side) r ⌝ }
-{
-    let value = ordinates(line, h, n, s, side);
-    let stand = Stand {
-        value,
-        station: s,
-        side,
-    };
-    Range {
-        greatest: stand,
-        least: stand,
-    }
-}
-
-// The pair at station s, from its better side for each question.
-fn at_station(line: &[u8], h: usize, n: usize, s: usize) -> Range
-    requires { ⌜ LineFits (now line) n ⌝ }
-    requires { ⌜ 1 ≤ h ⌝ }
-    ensures { λ r. ⌜ RangeRight (influenceLine (now (line .entry)) h n) s (λ q. betterSide q (influenceLine (now (line .entry)) h n) s) r ⌝ }
-{
-    let left = at_side(line, h, n, s, Side::Left);
-    let right = at_side(line, h, n, s, Side::Right);
-    wider(left, right)
-}
-
-// The best over all stations and both sides.
-pub(crate) fn best(line: &[u8], h: usize, n: usize) -> Range
-    requires { ⌜ LineFits (now line) n ⌝ }
-    requires { ⌜ 1 ≤ h ⌝ }
-    ensures { λ r. ⌜ RangeRight (influenceLine (now (line .entry)) h n) (n + 50 / h) (λ q. extreme q (n + 50 / h) (betterSide q (influenceLine (now (line .entry)) h n))) r ⌝ }
-{
-    let last = n + spacing(h);
-    let mut best = at_station(line, h, n, 0);
-    for s in 0..last {
-        let next = at_station(line, h, n, s + 1);
-        best = wider(best, next);
+    let next = rank(q, v, place);
+    if exact::beats(q, next as i64, best as i64) {
+        return next;
     }
     best
+}
+
+// The best ranks, for greatest and for least.
+pub struct Ranks {
+    pub greatest: i32,
+    pub least: i32,
+}
+
+// One place more.
+fn ranked(best: Ranks, v: i32, place: usize) -> Ranks
+    requires { ⌜ Within 10000 v × (place ≤ 4095) ⌝ }
+    ensures { λ r. ⌜ ((q : Question) → rankFor q r ≡ better q (rankFor q best) (rankOf q v place)) ⌝ }
+{
+    Ranks {
+        greatest: improved(Question::Greatest, best.greatest, v, place),
+        least: improved(Question::Least, best.least, v, place),
+    }
+}
+
+// Which axles are on the line, and how many words behind the right one the left one is.
+pub enum Axles {
+    Ahead,
+    Both(usize),
+    Behind(usize),
+}
+
+// The pair's ordinates with its right axle on word k.
+fn counted(line: &[u8], on: Axles, k: usize) -> i32
+    requires { ⌜ CountFits (now line) on k ⌝ }
+    ensures { λ r. ⌜ (r ≡ countOf (now (line .entry)) on k) × Within 10000 r ⌝ }
+{
+    match on {
+        Axles::Ahead => pieces::ordinate(line, k),
+        Axles::Both(apart) => pieces::ordinate(line, k - apart) + pieces::ordinate(line, k),
+        Axles::Behind(apart) => pieces::ordinate(line, k - apart),
+    }
+}
+
+// The best ranks, the pair's right axle on the words from .. to as well.
+fn stretch(line: &[u8], on: Axles, from: usize, to: usize, sofar: Ranks) -> Ranks
+    requires { ⌜ (from ≤ to) × (to ≤ 4095) × ((k : ℕ) → from ≤ k → k < to → CountFits (now line) on k) ⌝ }
+    ensures { λ r. ⌜ ((f : ℕ → ℤ) → ((k : ℕ) → from ≤ k → k < to → f (k + 1) ≡ countOf (now (line .entry)) on k) → RanksRight f from sofar → RanksRight f to r) ⌝ }
+{
+    let mut best = sofar;
+    for k in from..to {
+        best = ranked(best, counted(line, on, k), k + 1);
+    }
+    best
+}
+
+// The smaller count.
+fn lesser(a: usize, b: usize) -> usize
+    ensures { λ r. ⌜ r ≡ a - (a - b) ⌝ }
+{
+    if a <= b { a } else { b }
+}
+
+// The best ranks over all stations and both sides.
+pub(crate) fn best_ranks(line: &[u8], h: usize, n: usize) -> Ranks
+    requires { ⌜ LineFits (now line) n × (1 ≤ h) ⌝ }
+    ensures { λ r. ⌜ RanksRight (placed (influenceLine (now (line .entry)) h n)) (2 * (n + 50 / h) + 1) r ⌝ }
+{
+    let apart = places_apart(h);
+    let end = 2 * n;
+    let edge = lesser(apart, end);
+    let none = Ranks {
+        greatest: rank(Question::Greatest, 0, 0),
+        least: rank(Question::Least, 0, 0),
+    };
+    let ahead = stretch(line, Axles::Ahead, 0, edge, none);
+    let both = stretch(line, Axles::Both(apart), edge, end, ahead);
+    let from = end - edge + apart;
+    stretch(line, Axles::Behind(apart), from, end + apart, both)
+}
+
+// The side of a place.
+fn side_of(place: usize) -> Side
+    ensures { λ r. ⌜ r ≡ sideAt place ⌝ }
+{
+    if place % 2 == 0 {
+        Side::Left
+    } else {
+        Side::Right
+    }
+}
+
+// The stand that a rank stands for.
+pub(crate) fn stand_of(q: Question, rank: i32) -> Stand
+    requires { ⌜ pos 0 ≤ℤ rank ⌝ }
+    ensures { λ r. ⌜ ((v : ℤ) (p : ℕ) → Within 10000 v → p ≤ 4095 → rank ≡ rankOf q v p → r ≡ standOf v p) × (r .station ≤ 2047) ⌝ }
+{
+    let x = rank as usize;
+    let place = turn(q, x % 4096);
+    let side = side_of(place);
+    Stand {
+        value: ((x / 4096) as i64) - 10000,
+        station: place / 2,
+        side,
+    }
 }

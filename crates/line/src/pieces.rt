@@ -5,17 +5,26 @@ ghost use mathlib.Core.List.{_++_};
 ghost use Prim.Native.Nat.{ℕ, _*_, _≤_};
 ghost use lib.ListN.{length, drop};
 ghost use Rattle.exact.specs.Bounds.{Within};
+ghost use Rattle.model.specs.Words.{wordAt};
 ghost use Rattle.model.specs.Decode.{pieceAt, influenceLine};
-ghost use Rattle.model.specs.Line.{endSum, patchByte, patchBytes, loadedByte, loadedSum};
-ghost use Rattle.line.specs.Fits.{PieceFits, LineFits};
-ghost use Rattle.line.specs.Sought.{AreasRight};
+ghost use Rattle.model.specs.Line.{endSum, patchByte, patchBytes, loadedByte};
+ghost use Rattle.line.specs.LineFits.{WordFits, PieceFits, LineFits};
+ghost use Rattle.line.specs.Sought.{loadedSum, doubleArea};
+
+// Word k of the line, an ordinate.
+pub(crate) fn ordinate(line: &[u8], k: usize) -> i32
+    requires { ⌜ WordFits (now line) k ⌝ }
+    ensures { λ r. ⌜ (r ≡ wordAt (now (line .entry)) k) × Within 5000 r ⌝ }
+{
+    words::word(line, k) as i32
+}
 
 // Piece i's ordinate sum a + b.
-fn end_sum(line: &[u8], i: usize) -> i64
+fn end_sum(line: &[u8], i: usize) -> i32
     requires { ⌜ PieceFits (now line) i ⌝ }
     ensures { λ r. ⌜ (r ≡ endSum (pieceAt (now (line .entry)) i)) × Within 10000 r ⌝ }
 {
-    words::word(line, 2 * i) + words::word(line, 2 * i + 1)
+    ordinate(line, 2 * i) + ordinate(line, 2 * i + 1)
 }
 
 // Piece i's patch byte.
@@ -44,7 +53,7 @@ fn loaded_byte(sense: Sense) -> u8
 }
 
 // Piece i's ordinate sum where an element of the sense loads it, else 0.
-fn loaded_sum(line: &[u8], i: usize, sense: Sense) -> i64
+fn loaded_sum(line: &[u8], i: usize, sense: Sense) -> i32
     requires { ⌜ PieceFits (now line) i ⌝ }
     ensures { λ r. ⌜ (r ≡ loadedSum sense (pieceAt (now (line .entry)) i)) × Within 10000 r ⌝ }
 {
@@ -54,29 +63,17 @@ fn loaded_sum(line: &[u8], i: usize, sense: Sense) -> i64
     0
 }
 
-// Of each sense, twice the line's area over the pieces that it loads, in dm·U.
-pub struct Areas {
-    pub raising: i64,
-    pub lowering: i64,
-}
-
-// Over n pieces of h dm.
-pub(crate) fn double_areas(line: &[u8], h: usize, n: usize) -> Areas
+// Twice the line's area over the pieces that an element of the sense loads, in dm·U: n pieces of h dm.
+pub(crate) fn double_area(line: &[u8], h: usize, n: usize, sense: Sense) -> i64
     requires { ⌜ LineFits (now line) n ⌝ }
     requires { ⌜ (h ≤ 50) × (n * h ≤ 1000) ⌝ }
-    ensures { λ r. ⌜ AreasRight (influenceLine (now (line .entry)) h n) r ⌝ }
+    ensures { λ r. ⌜ (r ≡ doubleArea (influenceLine (now (line .entry)) h n) sense) × Within 10000000 r ⌝ }
 {
-    let mut raising: i64 = 0;
-    let mut lowering: i64 = 0;
+    let mut sum: i32 = 0;
     for i in 0..n {
-        raising += loaded_sum(line, i, Sense::Raising);
-        lowering += loaded_sum(line, i, Sense::Lowering);
+        sum += loaded_sum(line, i, sense);
     }
-    let length = h as i64;
-    Areas {
-        raising: length * raising,
-        lowering: length * lowering,
-    }
+    (h as i64) * (sum as i64)
 }
 
 // Writes a byte a piece; later bytes stay.

@@ -14,7 +14,6 @@ use lib.Signed.{_≤ℤ_, ltZ}
 use borrow.Author.Tests.{le-ltb}
 use Rattle.exact.specs.Choice.{if_then_else_}
 use Rattle.exact.specs.Questions.{better, NoBetter, extreme, rounded}
-use Rattle.exact.specs.Ranges.{sumTo}
 use Rattle.exact.specs.Rounding.{floorDiv, ceilDiv}
 use Rattle.exact.specs.declared.Question.{Question}
 use Rattle.exact.specs.declared.Question.the-variants.{Greatest, Least}
@@ -27,7 +26,7 @@ use Rattle.exact.proofs.Rounding.{rounded-mono}
 use Rattle.model.specs.Job.{Piece, InfluenceLine, Job, Live, noTraffic, normal, overload}
 use Rattle.model.specs.Decode.{decode}
 use Rattle.model.specs.Refusals.{jobVerdict}
-use Rattle.model.specs.Line.{Kind, HN, HO, axle, axleSpacing, ordinate, pair, endSum, patchByte, loadedByte, sought, loadedSum, uniformPart, station, bestPair, lineEffect}
+use Rattle.model.specs.Line.{Kind, HN, HO, axle, axleSpacing, ordinate, pair, endSum, patchByte, loadedByte, sought, pieceLoad, uniformPart, station, bestPair, lineEffect}
 use Rattle.model.specs.Lanes.{without, lanes, unit, sumUnit, lowestIn, highestIn, ordinateIn, twentieths}
 use Rattle.model.specs.Traffic.{bestInLane, laneEffect, setSum, bestNormal, bestOverload, bestSum, effectOf, trafficValue}
 use Rattle.model.specs.declared.Side.{Side}
@@ -74,7 +73,11 @@ pair-zero line sense = subst (λ (x : ℤ). NoBetter (sought sense) x (bestPair 
         ∙ ap₂ _+ℤ_ (off-right line (line .pieces) (omega arith)) (off-right line (line .pieces + 1 * axleSpacing line) (omega arith))
 
 -- ---- the uniform load
--- what an element of the sense loads of a piece is beaten neither by the whole piece nor by nothing
+-- a piece's ordinate sum where an element of the sense loads it, else 0
+abbrev pub loadedSum : Sense → Piece → ℤ
+loadedSum sense p = if eqb (patchByte p) (loadedByte sense) then endSum p else pos 0
+
+-- it is beaten neither by the whole piece nor by nothing
 pub loaded-bound : (sense : Sense) (p : Piece) → NoBetter (sought sense) (endSum p) (loadedSum sense p) × NoBetter (sought sense) (pos 0) (loadedSum sense p)
 unfolding patchByte
 loaded-bound sense p = go sense (ltZ (pos 0) (endSum p)) (ltZ (endSum p) (pos 0)) refl refl
@@ -94,15 +97,16 @@ loaded-bound sense p = go sense (ltZ (pos 0) (endSum p)) (ltZ (endSum p) (pos 0)
 pub multiple-zero : (q : Question) (c : ℕ) (v : ℤ) → NoBetter q (pos 0) v → NoBetter q (pos 0) (pos c *ℤ v)
 multiple-zero q c v h = subst (λ (x : ℤ). NoBetter q x (pos c *ℤ v)) (solve 1 (λ c. c ⊗ lit 0 ≐ lit 0) tt (pos c)) (no-better-scale q c (pos 0) v h)
 
--- a sense's whole pieces are not beaten by none
+-- a sense's load of a piece is not beaten by none, and so that of its whole pieces
+piece-zero : (sense : Sense) (h : ℕ) (p : Piece) → NoBetter (sought sense) (pos 0) (pieceLoad sense h p)
+unfolding pieceLoad
+piece-zero sense h p = multiple-zero (sought sense) (7 * h) (loadedSum sense p) (loaded-bound sense p .1)
+
 pub uniform-zero : (line : InfluenceLine) (sense : Sense) → NoBetter (sought sense) (pos 0) (uniformPart line sense)
 unfolding uniformPart
 uniform-zero line sense =
-    let q = sought sense in
-    let f : ℕ → ℤ = λ i. loadedSum sense (line .piece i) in
-    multiple-zero q (7 * line .h) (sumTo (line .pieces) f)
-    (subst (λ (x : ℤ). NoBetter q x (sumTo (line .pieces) f)) (sum-zero (line .pieces) (λ i. pos 0) (λ i l. refl))
-    (sum-mono q (line .pieces) (λ i. pos 0) f (λ i l. loaded-bound sense (line .piece i) .1)))
+    subst (λ (x : ℤ). NoBetter (sought sense) x (uniformPart line sense)) (sum-zero (line .pieces) (λ i. pos 0) (λ i l. refl))
+    (sum-mono (sought sense) (line .pieces) (λ i. pos 0) _ (λ i l. piece-zero sense (line .h) (line .piece i)))
 
 -- ---- an element
 -- an axle's load is not negative

@@ -18,7 +18,7 @@ use Rattle.exact.proofs.Exact.{_⊕_, _⊗_, _⊝_, lit, _≐_, solve}
 use Rattle.exact.proofs.Extremes.{no-better-refl, no-better-trans, no-better-add, no-better-scale, no-better-between}
 use Rattle.exact.proofs.Ranges.{sum-cong, sum-mono, sum-scale, sum-zero}
 use Rattle.model.specs.Job.{Piece, InfluenceLine}
-use Rattle.model.specs.Line.{axle, uniform, along, endSum, patchByte, loadedByte, sought, loadedSum, uniformPart, bestPair, lineEffect}
+use Rattle.model.specs.Line.{axle, uniform, along, endSum, patchByte, loadedByte, sought, pieceLoad, uniformPart, bestPair, lineEffect}
 use Rattle.model.specs.Arrangements.{Element, loadedParts, elementLine}
 use Rattle.model.specs.declared.Sense.{Sense}
 use Rattle.model.proofs.LineLimits.{Sided, above, below, OneSigned}
@@ -83,30 +83,44 @@ module _ (k : ℕ) (p : Piece) where
       loaded : ℕ → ℤ
       loaded j = if loads j then ends j else pos 0
 
-  -- the whole piece or none of it
-  all-or-none : (t : Bool) → sumTo k (λ j. if t then ends j else pos 0) ≡ pos (k * k) *ℤ (if t then endSum p else pos 0)
-  all-or-none true = whole
-  all-or-none false = sum-zero k (λ j. pos 0) (λ j l. refl) ∙ solve 1 (λ c. lit 0 ≐ c ⊗ lit 0) tt (pos (k * k))
+  -- the uniform load of a set of parts, in 75 N·U times k k
+  abbrev partsLoad : ℕ → (ℕ → Bool) → ℤ
+  partsLoad h loads = uniform *ℤ pos h *ℤ sumTo k (λ j. if loads j then ends j else pos 0)
+
+  -- k k times the load of the piece
+  times-load : (sense : Sense) (h : ℕ) → uniform *ℤ pos h *ℤ (pos (k * k) *ℤ loadedSum sense p) ≡ pos (k * k) *ℤ pieceLoad sense h p
+  unfolding pieceLoad
+  times-load sense h = solve 3 (λ h k x. lit 7 ⊗ h ⊗ (k ⊗ x) ≐ k ⊗ (lit 7 ⊗ h ⊗ x)) tt (pos h) (pos (k * k)) (loadedSum sense p)
+
+  -- no set of parts beats it
+  piece-bound : (sense : Sense) (h : ℕ) (loads : ℕ → Bool) → Sided p → NoBetter (sought sense) (partsLoad h loads) (pos (k * k) *ℤ pieceLoad sense h p)
+  piece-bound sense h loads s =
+      let b = loaded-bound sense p in
+      subst (NoBetter (sought sense) (partsLoad h loads)) (times-load sense h) (no-better-scale (sought sense) (7 * h) _ _ (parts-bound (sought sense) loads (loadedSum sense p) s (b .0) (b .1)))
+
+  -- the whole piece, where it has the sense's byte, or none of it has just that
+  piece-given : (sense : Sense) (h : ℕ) (loads : ℕ → Bool) → ((j : ℕ) → loads j ≡ eqb (patchByte p) (loadedByte sense)) → partsLoad h loads ≡ pos (k * k) *ℤ pieceLoad sense h p
+  piece-given sense h loads e =
+      ap (λ (x : ℤ). uniform *ℤ pos h *ℤ x) (sum-cong k _ _ (λ j l. ap (λ (t : Bool). if t then ends j else pos 0) (e j)) ∙ all-or-none (eqb (patchByte p) (loadedByte sense)))
+      ∙ times-load sense h
+    where
+      all-or-none : (t : Bool) → sumTo k (λ j. if t then ends j else pos 0) ≡ pos (k * k) *ℤ (if t then endSum p else pos 0)
+      all-or-none true = whole
+      all-or-none false = sum-zero k (λ j. pos 0) (λ j l. refl) ∙ solve 1 (λ c. lit 0 ≐ c ⊗ lit 0) tt (pos (k * k))
 
 -- ---- the line
 module _ (line : InfluenceLine) (sense : Sense) (k : ℕ) where
-  -- pieces times k k, each piece's loaded sum
-  scaled : uniform *ℤ pos (line .h) *ℤ sumTo (line .pieces) (λ i. pos (k * k) *ℤ loadedSum sense (line .piece i)) ≡ pos (k * k) *ℤ uniformPart line sense
+  -- k k times each piece's load
+  scaled : sumTo (line .pieces) (λ i. pos (k * k) *ℤ pieceLoad sense (line .h) (line .piece i)) ≡ pos (k * k) *ℤ uniformPart line sense
   unfolding uniformPart
-  scaled =
-      let f : ℕ → ℤ = λ i. loadedSum sense (line .piece i) in
-      ap (λ (x : ℤ). uniform *ℤ pos (line .h) *ℤ x) (sum-scale (line .pieces) (pos (k * k)) f)
-      ∙ solve 3 (λ h k x. lit 7 ⊗ h ⊗ (k ⊗ x) ≐ k ⊗ (lit 7 ⊗ h ⊗ x)) tt (pos (line .h)) (pos (k * k)) (sumTo (line .pieces) f)
+  scaled = sum-scale (line .pieces) (pos (k * k)) (λ i. pieceLoad sense (line .h) (line .piece i))
 
   -- no set of loaded k-ths beats k k times the sense's whole pieces
   pub loaded-parts-bound : (e : Element) → OneSigned line → NoBetter (sought sense) (loadedParts line k e) (pos (k * k) *ℤ uniformPart line sense)
   unfolding loadedParts
   loaded-parts-bound e signed =
-      let q = sought sense in
-      subst (NoBetter q (loadedParts line k e)) scaled
-      (no-better-scale q (7 * line .h) _ _
-      (sum-mono q (line .pieces) _ (λ i. pos (k * k) *ℤ loadedSum sense (line .piece i))
-      (λ i l. let b = loaded-bound sense (line .piece i) in parts-bound k (line .piece i) q (e .loads i) (loadedSum sense (line .piece i)) (signed i l) (b .0) (b .1))))
+      subst (NoBetter (sought sense) (loadedParts line k e)) scaled
+      (sum-mono (sought sense) (line .pieces) _ _ (λ i l. piece-bound k (line .piece i) sense (line .h) (e .loads i) (signed i l)))
 
   -- no element's longitudinal effect beats k k times its kind's line effect for the sense
   pub line-bound : (e : Element) → OneSigned line → zero < k → NoBetter (sought sense) (elementLine line k e) (pos (k * k) *ℤ lineEffect line (e .kind) sense)
@@ -122,9 +136,5 @@ module _ (line : InfluenceLine) (sense : Sense) (k : ℕ) where
       loadedParts line k e ≡ pos (k * k) *ℤ uniformPart line sense
   unfolding loadedParts
   loaded-parts-given e patch bytes loads =
-      ap (λ (x : ℤ). uniform *ℤ pos (line .h) *ℤ x)
-      (sum-cong (line .pieces) _ (λ i. pos (k * k) *ℤ loadedSum sense (line .piece i))
-      (λ i l.
-      sum-cong k _ _ (λ j m. ap (λ (t : Bool). if t then ends k (line .piece i) j else pos 0) (loads i j ∙ ap (λ (x : ℕ). eqb x (loadedByte sense)) (bytes i l)))
-      ∙ all-or-none k (line .piece i) (eqb (patchByte (line .piece i)) (loadedByte sense))))
+      sum-cong (line .pieces) _ _ (λ i l. piece-given k (line .piece i) sense (line .h) (e .loads i) (λ j. loads i j ∙ ap (λ (x : ℕ). eqb x (loadedByte sense)) (bytes i l)))
       ∙ scaled

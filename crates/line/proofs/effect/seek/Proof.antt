@@ -1,96 +1,91 @@
-use mathlib.Core.Path.{_≡_, sym, _∙_, ap, subst}
-use Prim.Native.Nat.{_+_, _/_, _≤_}
+use mathlib.Core.Path.{_≡_, refl, sym, _∙_, subst}
+use Prim.Native.Nat.{ℕ, _+_, _*_}
 use native.Mathlib.Nat.{div-le-self}
 use native.Mathlib.Omega.{arith}
-use lib.Dec.{lit<}
-use lib.IntN.{ℤ}
-use mir.Syntax.{w64}
-use mir.Val.{toZ, ofZ}
+use lib.IntN.{ℤ, pos}
+use lib.Signed.{_≤ℤ_}
+use mir.Syntax.{w32, w64}
+use mir.Val.{SFits, toZ, ofZ}
 use Rattle.exact.specs.Bounds.{Within}
-use Rattle.exact.proofs.Held.{known}
+use Rattle.exact.proofs.Held.{told, any, got}
 use Rattle.model.specs.Job.{InfluenceLine}
 use Rattle.model.specs.Decode.{influenceLine}
-use Rattle.model.specs.Line.{station, bestPair, sought}
+use Rattle.model.specs.Line.{axleSpacing, sought}
 use Rattle.model.specs.declared.Sense.{Sense}
 use Rattle.model.specs.declared.Sense.the-variants.{Raising, Lowering}
-use Rattle.line.specs.Stands.{Stands, standFor}
-use Rattle.line.specs.Sought.{areaFor, SoughtRight}
-use Rattle.line.specs.declared.effect.Sought.{Sought}
-use Rattle.line.proofs.Standing.{stands-position}
+use Rattle.line.specs.PairPlaces.{placed, rankFor}
+use Rattle.line.specs.Sought.{doubleArea, Found}
+use Rattle.line.proofs.Places.{placed-near, best-natural}
 use borrow.Author.Needs.{needs}
 use Rattle.line.proofs.effect.seek.Statement.{statement}
 use Rattle.line.proofs.effect.seek.Tie as tie
 
-double-areas-requires : tie.Need-double-areas-requires
-double-areas-requires c κs = search needs
+best-ranks-requires : tie.Need-best-ranks-requires
+best-ranks-requires c κs = search needs
 
-best-requires : tie.Need-best-requires
-best-requires c κs = search needs
+double-area-requires : tie.Need-double-area-requires
+double-area-requires c κs = search needs
 
-module _ (c : tie.After-best) where
+double-area-requires-2 : tie.Need-double-area-requires-2
+double-area-requires-2 c κs = search needs
+
+module _ (c : tie.After-best-ranks) where
   abbrev st : tie.Start
-  st = c .before .before .before
+  st = c .before .before
 
   abbrev line : InfluenceLine
   line = influenceLine (st .args .line .now) (st .args .h) (st .args .n)
 
-  -- a sense's best pair, found for its question
-  found : (sense : Sense) → Stands line (st .args .n + 50 / st .args .h) (bestPair line sense) (standFor (sought sense) (c .best .result))
-  unfolding bestPair
-  found sense = c .best .ensures (sought sense)
+  near : (p : ℕ) → Within 10000 (placed line p)
+  near = placed-near (st .args .line .now) (st .args .h) (st .args .n) (st .pre .0)
 
-  few : (sense : Sense) → standFor (sought sense) (c .best .result) .station ≤ 1050
-  few sense = omega (arith, found sense .station, div-le-self 50 (st .args .h))
+  -- a sense's rank, as it is passed
+  abbrev rank : Sense → ℤ
+  rank sense = toZ w32 (ofZ w32 (rankFor (sought sense) (c .best-ranks .result)))
 
-  abbrev area : Sense → ℤ
-  area sense = areaFor sense (c .before .double-areas .result)
+  natural : (sense : Sense) → SFits w32 (rankFor (sought sense) (c .best-ranks .result)) → pos 0 ≤ℤ rank sense
+  natural sense f = subst (λ (z : ℤ). pos 0 ≤ℤ z) (sym (any f .is ∙ c .best-ranks .ensures (sought sense))) (best-natural (sought sense) (placed line) (2 * (line .pieces + axleSpacing line) + 1) near)
 
-  -- by an area and the stand found for the sense
-  abbrev of : Sense → ℤ → Sought
-  of sense a =
-      let s = standFor (sought sense) (c .best .result) in
-      record { area = a; pair = s .value; position = record { station = station line (s .station); side = s .side } }
+  found : (sense : Sense) {a : ℤ} → SFits w32 (rankFor (sought sense) (c .best-ranks .result)) → a ≡ doubleArea line sense → Found line sense a (rank sense)
+  found sense f e = record { area = e; rank = any f .is ∙ c .best-ranks .ensures (sought sense); few = omega (arith, st .pre .0 .few, div-le-self 50 (st .args .h)); near = near }
 
-  right : (sense : Sense) → SoughtRight line sense (of sense (area sense))
-  right sense =
-      let a = c .before .double-areas .ensures sense in
-      let p = found sense in
-      record {
-        area = a .0;
-        pair = p .value;
-        position = stands-position line sense p;
-        near = record { area = a .1; pair = subst (Within 10000) (sym (p .value)) (p .near) };
-      }
-
-  -- as the area was passed
-  passed : (sense : Sense) {r : Sought} → r ≡ of sense (toZ w64 (ofZ w64 (area sense))) → SoughtRight line sense r
-  passed sense e =
-      subst (SoughtRight line sense) (sym (e ∙ ap (of sense) (known w64 (c .before .double-areas .ensures sense .1) (lit< tt) .is))) (right sense)
+-- what is asked of either sense's numbers
+asked : (c : tie.After-double-area2) → (Within 10000000 (toZ w64 (ofZ w64 (c .before .double-area .result))) × Within 10000000 (toZ w64 (ofZ w64 (c .double-area2 .result))))
+asked c = (told (got w64 (c .before .double-area .ok) (c .before .double-area .ensures)) .1, told (got w64 (c .double-area2 .ok) (c .double-area2 .ensures)) .1)
 
 sought-at-requires : tie.Need-sought-at-requires
 sought-at-requires c κs =
     let d = c .before .before .before in
-    let up = few d Raising in
-    let down = few d Lowering in
-    (st d .pre .1 .0, omega arith)
+    let up = asked (c .before) .0 in
+    let down = asked (c .before) .1 in
+    let high = natural d Raising (search needs) in
+    let low = natural d Lowering (search needs) in
+    (st d .pre .1 .0, search needs, search needs)
 
 sought-at-requires-2 : tie.Need-sought-at-requires-2
 sought-at-requires-2 c κs =
     let d = c .before .before .before .before .before in
-    let up = few d Raising in
-    let down = few d Lowering in
-    (st d .pre .1 .0, omega arith)
+    let up = asked (c .before .before .before) .0 in
+    let down = asked (c .before .before .before) .1 in
+    let high = natural d Raising (search needs) in
+    let low = natural d Lowering (search needs) in
+    (st d .pre .1 .0, search needs, search needs)
 
 returns : tie.Need-returns
-returns c Raising = passed (c .before .before .before .before .before .before) Raising (c .before .before .sought-at .ensures)
-returns c Lowering = passed (c .before .before .before .before .before .before) Lowering (c .sought-at2 .ensures)
+returns c Raising =
+    let a = c .before .before .before .before .before in
+    c .before .before .sought-at .ensures (line (a .before)) refl (found (a .before) Raising (search needs) (got w64 (a .double-area .ok) (a .double-area .ensures) .is))
+returns c Lowering =
+    let a = c .before .before .before .before in
+    c .sought-at2 .ensures (line (a .before .before)) refl (found (a .before .before) Lowering (search needs) (got w64 (a .double-area2 .ok) (a .double-area2 .ensures) .is))
 
 pub seek-spec : {M : Type 1} → statement M
 seek-spec =
     tie.close
     (tie.spec
-    double-areas-requires
-    best-requires
+    best-ranks-requires
+    double-area-requires
+    double-area-requires-2
     sought-at-requires
     sought-at-requires-2
     returns)

@@ -1,52 +1,98 @@
-use mathlib.Core.Path.{_≡_, refl, ap}
-use Prim.Native.Nat.{ℕ, _/_}
+use mathlib.Core.Path.{_≡_, sym, _∙_, ap, subst}
+use Prim.Native.Nat.{ℕ, _+_, _/_, _^_}
 use native.Mathlib.Omega.{arith}
 use lib.Dec.{lit<}
-use lib.IntN.{pos, _-ℤ_}
-use mir.Syntax.{w64}
-use mir.Val.{toZ, ofZ}
-use Rattle.exact.proofs.Held.{Kept, any, ok-fits, nat, retold, minus, minus! }
-use borrow.Author.Needs.{needs}
+use lib.IntN.{ℤ, pos, _-ℤ_}
+use mir.Syntax.{w32, w64}
+use mir.Val.{ofZ}
+use Rattle.exact.specs.Bounds.{Within}
+use Rattle.exact.specs.Questions.{extreme}
+use Rattle.exact.specs.declared.Question.{Question}
+use Rattle.exact.proofs.Held.{told, Held, Kept, any, arg, known, nat, retold, minus, minus! }
+use Rattle.model.specs.Answered.{PositionRight}
+use Rattle.model.specs.Job.{InfluenceLine}
+use Rattle.model.specs.Line.{axleSpacing, sought, station, bestPair}
+use Rattle.line.specs.PairPlaces.{betterSide, PairStands, placed, rankOf}
+use Rattle.line.specs.Sought.{Found}
 use Rattle.line.specs.declared.pair.Stand.{Stand}
+use Rattle.line.proofs.Places.{Leads, leads, stands-position}
+use borrow.Author.Needs.{needs}
 use Rattle.line.proofs.effect.sought_at.Statement.{statement}
 use Rattle.line.proofs.effect.sought_at.Tie as tie
 
-cast-t6 : tie.Need-cast-t6
-cast-t6 c = search needs
+question-requires : tie.Need-question-requires
+question-requires c κs = search needs
+
+stand-of-requires : tie.Need-stand-of-requires
+stand-of-requires c κs = search needs
+
+cast-t9 : tie.Need-cast-t9
+cast-t9 c = search needs
 
 spacing-requires : tie.Need-spacing-requires
 spacing-requires c κs = search needs
 
-cast-t8 : tie.Need-cast-t8
-cast-t8 c = search needs
+cast-t11 : tie.Need-cast-t11
+cast-t11 c = search needs
 
 module _ (c : tie.After-spacing) where
+  abbrev at : tie.After-stand-of
+  at = c .before .before
+
   abbrev st : tie.Start
-  st = c .before .before
+  st = at .before .before
 
   abbrev stand : Stand
-  stand = st .args .stand
+  stand = at .stand-of .result
 
-  abbrev right : Kept w64 1050 (pos (stand .station))
-  right = (_, nat w64 1050 (st .pre .1) (omega arith))
+  abbrev right : Kept w64 2047 (pos (stand .station))
+  right = (_, nat w64 2047 (at .stand-of .ensures .1) (omega (arith, at .stand-of .ensures .1)))
 
   abbrev apart : Kept w64 50 (pos (c .spacing .result))
   apart = (_, nat w64 50 (c .spacing .ensures .1) (omega arith))
 
-  -- the left axle's station
-  abbrev left : Kept w64 1100 (pos (stand .station) -ℤ pos (50 / st .args .h))
-  left = (_, retold (minus (right .1) (apart .1) (lit< tt)) (ap (λ (k : ℕ). pos (stand .station) -ℤ pos k) (c .spacing .ensures .0)))
+  -- a line on which area and rank were found
+  module _ (line : InfluenceLine) (same : line .h ≡ st .args .h) (found : Found line (st .args .sense) (st .args .area) (st .args .rank)) where
+    abbrev last : ℕ
+    last = line .pieces + axleSpacing line
 
-  pair-read : toZ w64 (ofZ w64 (stand .value)) ≡ stand .value
-  pair-read = any (ok-fits w64 (stand .value) (omega arith)) .is
+    abbrev q : Question
+    q = sought (st .args .sense)
 
-sub-t9 : tie.Need-sub-t9
-sub-t9 c = minus! (right c .1) (apart c .1) (lit< tt)
+    lead : Leads q line last
+    lead = leads q line last (omega (arith, found .few)) (found .near)
+
+    rank-is : (k : Question) → k ≡ q → Held w32 (ofZ w32 (st .args .rank)) (2 ^ 31) (rankOf k (placed line (lead .place)) (lead .place))
+    rank-is k e = retold (any (st .fits .rank)) (found .rank ∙ lead .is ∙ ap (λ (k : Question). rankOf k (placed line (lead .place)) (lead .place)) (sym e))
+
+    stands : PairStands line last (bestPair line (st .args .sense)) stand
+    unfolding bestPair
+    stands =
+        let p = lead .place in
+        subst (PairStands line last (extreme q last (betterSide q line))) (sym (at .stand-of .ensures .0 (placed line p) p (found .near p) (omega (arith, found .few, lead .early)) (rank-is (at .before .question .result) (at .before .question .ensures) .is))) (lead .stands)
+
+    -- the left axle's station
+    abbrev left : Kept w64 2097 (station line (stand .station))
+    left = (_, retold (minus (right .1) (apart .1) (lit< tt)) (ap (λ (k : ℕ). pos (stand .station) -ℤ pos k) (c .spacing .ensures .0 ∙ ap (λ (h : ℕ). 50 / h) (sym same))))
+
+sub-t12 : tie.Need-sub-t12
+sub-t12 c = minus! (right c .1) (apart c .1) (lit< tt)
 
 returns : tie.Need-returns
-returns c =
+returns c line same found =
     let d = c .before in
-    rw (any (st d .fits .area) .is, pair-read d, left d .1 .is) refl
+    let s = st d in
+    let f = stands d line same found in
+    let area = retold (arg (s .fits .area) (s .pre .1)) (found .area) in
+    let pair = retold (known w64 (subst (Within 10000) (sym (f .value)) (f .near)) (lit< tt)) (f .value) in
+    record {
+      area = area .is;
+      pair = pair .is;
+      position = subst (λ (z : ℤ). PositionRight line (s .args .sense) (record { station = z; side = stand d .side })) (sym (left d line same found .1 .is)) (stands-position line (s .args .sense) f);
+      near = record { area = told area .1; pair = told pair .1 };
+    }
 
 pub sought-at-spec : {M : Type 1} → statement M
-sought-at-spec = tie.close (tie.spec cast-t6 spacing-requires cast-t8 sub-t9 returns)
+sought-at-spec =
+    tie.close
+    (tie.spec question-requires stand-of-requires cast-t9 spacing-requires cast-t11 sub-t12 returns)

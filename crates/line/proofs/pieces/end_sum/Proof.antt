@@ -1,36 +1,38 @@
 use borrow.Author.Needs.{needs}
 use Prim.Native.Nat.{_+_, _*_}
+use native.Mathlib.Omega.{arith}
 use lib.Dec.{lit<}
-use mir.Syntax.{w64}
+use mir.Syntax.{w32}
 use Rattle.model.specs.Words.{wordAt}
-use Rattle.exact.proofs.Held.{told, Kept, ret, plus, plus! }
+use Rattle.exact.proofs.Held.{told, Kept, got, plus, plus! }
+use Rattle.line.proofs.Fitting.{piece-word}
 use Rattle.line.proofs.pieces.end_sum.Statement.{statement}
 use Rattle.line.proofs.pieces.end_sum.Tie as tie
 
-mul-word : tie.Need-mul-word
-mul-word c = search needs
+mul-ordinate : tie.Need-mul-ordinate
+mul-ordinate c = search needs
 
-word-requires : tie.Need-word-requires
-word-requires c κs = search needs
+ordinate-requires : tie.Need-ordinate-requires
+ordinate-requires c κs = piece-word (c .before .pre) _ (omega arith) (omega arith)
 
-mul-word-2 : tie.Need-mul-word-2
-mul-word-2 c = search needs
+mul-ordinate-2 : tie.Need-mul-ordinate-2
+mul-ordinate-2 c = search needs
 
-add-word : tie.Need-add-word
-add-word c = search needs
+add-ordinate : tie.Need-add-ordinate
+add-ordinate c = search needs
 
-word-requires-2 : tie.Need-word-requires-2
-word-requires-2 c κs = search needs
+ordinate-requires-2 : tie.Need-ordinate-requires-2
+ordinate-requires-2 c κs = piece-word (c .before .before .pre) _ (omega arith) (omega arith)
 
-module _ (c : tie.After-word2) where
+module _ (c : tie.After-ordinate2) where
   abbrev st : tie.Start
   st = c .before .before .before
 
-  abbrev left : Kept w64 5000 (wordAt (st .args .line .now) (2 * st .args .i))
-  left = (_, ret w64 (c .before .word .ok) (c .before .word .ensures .0) (st .pre .left))
+  abbrev left : Kept w32 5000 (wordAt (st .args .line .now) (2 * st .args .i))
+  left = (_, got w32 (c .before .ordinate .ok) (c .before .ordinate .ensures))
 
-  abbrev right : Kept w64 5000 (wordAt (st .args .line .now) (2 * st .args .i + 1))
-  right = (_, ret w64 (c .word2 .ok) (c .word2 .ensures .0) (st .pre .right))
+  abbrev right : Kept w32 5000 (wordAt (st .args .line .now) (2 * st .args .i + 1))
+  right = (_, got w32 (c .ordinate2 .ok) (c .ordinate2 .ensures))
 
 add-result : tie.Need-add-result
 add-result c = plus! (left c .1) (right c .1) (lit< tt)
@@ -41,4 +43,11 @@ returns c = told (plus (left c .1) (right c .1) (lit< tt))
 pub end-sum-spec : {M : Type 1} → statement M
 end-sum-spec =
     tie.close
-    (tie.spec mul-word word-requires mul-word-2 add-word word-requires-2 add-result returns)
+    (tie.spec
+    mul-ordinate
+    ordinate-requires
+    mul-ordinate-2
+    add-ordinate
+    ordinate-requires-2
+    add-result
+    returns)

@@ -1,7 +1,7 @@
 use mathlib.Core.Path.{refl}
 use lib.Dec.{lit<}
 use lib.IntN.{pos}
-use mir.Syntax.{w64}
+use mir.Syntax.{w32}
 use Rattle.model.specs.Decode.{pieceAt}
 use Rattle.model.specs.Line.{endSum, patchByte}
 use Rattle.exact.proofs.Held.{Kept, got, lit, lt-yes, lt-no}
@@ -12,11 +12,11 @@ use Rattle.line.proofs.pieces.patch_byte.Tie as tie
 end-sum-requires : tie.Need-end-sum-requires
 end-sum-requires c κs = search needs
 
-abbrev zero : Kept w64 0 (pos 0)
-zero = (_, lit w64 0 (lit< tt))
+abbrev zero : Kept w32 0 (pos 0)
+zero = (_, lit w32 0 (lit< tt))
 
-abbrev sum : (c : tie.After-end-sum) → Kept w64 10000 (endSum (pieceAt (c .before .before .args .line .now) (c .before .before .args .i)))
-sum c = (_, got w64 (c .end-sum .ok) (c .end-sum .ensures))
+abbrev sum : (c : tie.After-end-sum) → Kept w32 10000 (endSum (pieceAt (c .before .before .args .line .now) (c .before .before .args .i)))
+sum c = (_, got w32 (c .end-sum .ok) (c .end-sum .ensures))
 
 returns : tie.Need-returns
 unfolding patchByte

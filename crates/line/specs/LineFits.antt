@@ -5,13 +5,17 @@ use lib.ListN.{length}
 use Rattle.exact.specs.Bounds.{Within}
 use Rattle.model.specs.Words.{wordAt}
 
--- piece i's two ordinates are there and within their limits
+-- word k is there and within its limits
+pub record WordFits (s : List ℕ) (k : ℕ) : Type 0 where
+  pub room : 4 * k + 4 ≤ length s
+  pub near : Within 5000 (wordAt s k)
+
+-- so are piece i's two ordinates
 pub record PieceFits (s : List ℕ) (i : ℕ) : Type 0 where
   pub room : 8 * i + 8 ≤ length s
-  pub left : Within 5000 (wordAt s (2 * i))
-  pub right : Within 5000 (wordAt s (2 * i + 1))
+  pub near : (k : ℕ) → 2 * i ≤ k → k ≤ 2 * i + 1 → Within 5000 (wordAt s k)
 
--- so are those of n pieces
+-- and those of n pieces
 pub record LineFits (s : List ℕ) (n : ℕ) : Type 0 where
   pub room : 8 * n ≤ length s
   pub few : n ≤ 1000

@@ -1,0 +1,232 @@
+-- The pair's places: what it counts at each, by the line's words, and the stand of the best rank.
+use mathlib.Core.Path.{_≡_, refl, sym, _∙_, ap, ap₂, subst}
+use mathlib.Core.Bool.{Bool}
+use mathlib.Core.List.{List}
+use Prim.Native.Nat.{ℕ, _+_, _-_, _*_, _/_, _%_, _≤_, _<_}
+use native.Mathlib.Decide.{decLe, ℕ-discrete}
+use native.Mathlib.Omega.{arith}
+use lib.Dec.{eqb}
+use lib.IntN.{ℤ, pos, negsuc, _+ℤ_, _*ℤ_}
+use lib.Signed.{_≤ℤ_}
+use borrow.Author.Tests.{eq-eqb, ne-eqb}
+use Rattle.exact.specs.Bounds.{Within}
+use Rattle.exact.specs.Choice.{if_then_else_}
+use Rattle.exact.specs.Parts.{up}
+use Rattle.exact.specs.Questions.{better, NoBetter, extreme}
+use Rattle.exact.specs.declared.Question.{Question}
+use Rattle.exact.specs.declared.Question.the-variants.{Greatest, Least}
+use Rattle.exact.proofs.Bounds.{within-pos, within-add}
+use Rattle.exact.proofs.Bridge.{ℕ→≤, ≤→ℕ, added, subbed, up-neg, dn-neg}
+use Rattle.exact.proofs.Extremes.{no-better-trans, no-better-antisym, better-left, better-right, better-least, extreme-step, extreme-bounds, extreme-least, Met, extreme-met}
+use Rattle.exact.proofs.Order.{pos-nonneg}
+use Rattle.exact.proofs.Ring.{_⊕_, _⊗_, lit, _≐_, _≼_, _⇒_, solve, linear}
+use Rattle.model.specs.Words.{wordAt}
+use Rattle.model.specs.Job.{InfluenceLine}
+use Rattle.model.specs.Line.{axleSpacing, ordinate, station, bestPair}
+use Rattle.model.specs.Decode.{influenceLine}
+use Rattle.model.specs.Answered.{PositionRight}
+use Rattle.model.specs.declared.Sense.{Sense}
+use Rattle.model.specs.declared.Side.{Side}
+use Rattle.model.specs.declared.Side.the-variants.{Left, Right}
+use Rattle.model.proofs.Signs.{off-left, off-right}
+use Rattle.line.specs.LineFits.{LineFits}
+use Rattle.line.specs.PairPlaces.{pairAt, betterSide, PairStands, sideAt, placed, standOf, turned, rankOf, bestRank, rankFor, RanksRight}
+use Rattle.line.specs.declared.pair.Stand.{Stand}
+use Rattle.line.specs.declared.pair.Ranks.{Ranks}
+use Rattle.line.proofs.Axles.{right-on, left-on, pair-both, pair-ahead}
+
+pub even-side : (p : ℕ) → p % 2 ≡ 0 → sideAt p ≡ Left
+even-side p e = ap (λ (b : Bool). if b then Left else Right) (eq-eqb (p % 2) 0 e)
+
+pub odd-side : (p : ℕ) → ¬ (p % 2 ≡ 0) → sideAt p ≡ Right
+odd-side p e = ap (λ (b : Bool). if b then Left else Right) (ne-eqb (p % 2) 0 e)
+
+-- ---- what the pair counts at a place
+module _ (s : List ℕ) (h n : ℕ) where
+  abbrev given : InfluenceLine
+  given = influenceLine s h n
+
+  abbrev d : ℕ
+  d = axleSpacing given
+
+  -- one axle at place p
+  abbrev axle : ℕ → ℤ
+  axle p = ordinate given 1 (pos (p / 2)) (sideAt p)
+
+  axle-on : (p k : ℕ) → p ≡ k + 1 → k < 2 * n → axle p ≡ wordAt s k
+  axle-on p k f l = elim (ℕ-discrete (p % 2) 0) [
+    | yes e ↦ let same : 2 * (p / 2 - 1) + 1 ≡ k = omega arith in ap (ordinate given 1 (pos (p / 2))) (even-side p e) ∙ left-on given (p / 2) (λ z. omega arith) (omega arith) ∙ ap (wordAt s) same
+    | no e ↦ let same : 2 * (p / 2) ≡ k = omega arith in ap (ordinate given 1 (pos (p / 2))) (odd-side p e) ∙ right-on given (p / 2) (omega arith) ∙ ap (wordAt s) same
+  ]
+
+  axle-before : (p : ℕ) → p ≡ 0 → axle p ≡ pos 0
+  unfolding ordinate
+  axle-before p e = ap axle e
+
+  axle-past : (p : ℕ) → 2 * n < p → axle p ≡ pos 0
+  axle-past p l = elim (ℕ-discrete (p % 2) 0) [
+    | yes e ↦ ap (ordinate given 1 (pos (p / 2))) (even-side p e) ∙ off-left given (p / 2) (omega arith)
+    | no e ↦ ap (ordinate given 1 (pos (p / 2))) (odd-side p e) ∙ off-right given (p / 2) (omega arith)
+  ]
+
+  -- the left axle is twice the axle spacing of places before, or before the line
+  placed-is : (p : ℕ) → placed given p ≡ axle (p - 2 * d) +ℤ axle p
+  unfolding placed
+  placed-is p = elim (decLe (2 * d) p) [
+    | yes l ↦
+        let e : p / 2 - d ≡ (p - 2 * d) / 2 = omega arith in
+        let f : p % 2 ≡ (p - 2 * d) % 2 = omega arith in
+        pair-both given (p / 2) (sideAt p) (omega arith) ∙ ap₂ (λ (k : ℕ) (side : Side). ordinate given 1 (pos k) side +ℤ axle p) e (ap (λ (k : ℕ). if eqb k 0 then Left else Right) f)
+    | no l ↦ pair-ahead given (p / 2) (sideAt p) (omega arith) ∙ solve 1 (λ z. z ≐ lit 0 ⊕ z) tt (axle p) ∙ ap (λ (z : ℤ). z +ℤ axle p) (sym (axle-before (p - 2 * d) (omega arith)))
+  ]
+
+  pub placed-ahead : (p k : ℕ) → p ≡ k + 1 → k < 2 * n → k < 2 * d → placed given p ≡ wordAt s k
+  placed-ahead p k e l m = placed-is p ∙ ap₂ _+ℤ_ (axle-before (p - 2 * d) (omega arith)) (axle-on p k e l) ∙ solve 1 (λ z. lit 0 ⊕ z ≐ z) tt (wordAt s k)
+
+  pub placed-both : (p k j : ℕ) → p ≡ k + 1 → k ≡ j + 2 * d → k < 2 * n → placed given p ≡ wordAt s j +ℤ wordAt s k
+  placed-both p k j e f l = placed-is p ∙ ap₂ _+ℤ_ (axle-on (p - 2 * d) j (omega arith) (omega arith)) (axle-on p k e l)
+
+  pub placed-behind : (p k : ℕ) → p ≡ k + 2 * d + 1 → k < 2 * n → 2 * n ≤ k + 2 * d → placed given p ≡ wordAt s k
+  placed-behind p k e l m = placed-is p ∙ ap₂ _+ℤ_ (axle-on (p - 2 * d) k (omega arith) l) (axle-past p (omega arith)) ∙ solve 1 (λ z. z ⊕ lit 0 ≐ z) tt (wordAt s k)
+
+  -- neither axle is on the line
+  pub placed-start : placed given 0 ≡ pos 0
+  placed-start = placed-is 0 ∙ ap₂ _+ℤ_ (axle-before (0 - 2 * d) (omega arith)) (axle-before 0 refl)
+
+  pub placed-gap : (p : ℕ) → 2 * n < p → p ≤ 2 * d → placed given p ≡ pos 0
+  placed-gap p l m = placed-is p ∙ ap₂ _+ℤ_ (axle-before (p - 2 * d) (omega arith)) (axle-past p l)
+
+  pub placed-end : (p : ℕ) → 2 * n + 2 * d < p → placed given p ≡ pos 0
+  placed-end p l = placed-is p ∙ ap₂ _+ℤ_ (axle-past (p - 2 * d) (omega arith)) (axle-past p (omega arith))
+
+  axle-near : LineFits s n → (p : ℕ) → Within 5000 (axle p)
+  axle-near fits p = elim (ℕ-discrete p 0) [
+    | yes e ↦ subst (Within 5000) (sym (axle-before p e)) (within-pos 5000 (omega arith))
+    | no e ↦ elim (decLe p (2 * n)) [
+      | yes l ↦ subst (Within 5000) (sym (axle-on p (p - 1) (omega arith) (omega arith))) (fits .near (p - 1) (omega arith))
+      | no l ↦ subst (Within 5000) (sym (axle-past p (omega arith))) (within-pos 5000 (omega arith))
+    ]
+  ]
+
+  pub placed-near : LineFits s n → (p : ℕ) → Within 10000 (placed given p)
+  placed-near fits p = subst (Within 10000) (sym (placed-is p)) (within-add (axle-near fits (p - 2 * d)) (axle-near fits p))
+
+-- ---- ranks
+pub turn-late : (q : Question) (p : ℕ) → p ≤ 4095 → turned q p ≤ 4095
+turn-late Greatest p l = omega arith
+turn-late Least p l = l
+
+pub turn-back : (q : Question) (p : ℕ) → p ≤ 4095 → turned q (turned q p) ≡ p
+turn-back Greatest p l = omega arith
+turn-back Least p l = refl
+
+-- ordinates are raised to a natural number
+pub raised : (v : ℤ) → Within 10000 v → pos 10000 +ℤ v ≡ pos (up (pos 10000 +ℤ v))
+raised v near = natural (pos 10000 +ℤ v) (ℕ→≤ (omega (arith, added (pos 10000) v, near .dn≤)))
+  where
+    natural : (z : ℤ) → pos 0 ≤ℤ z → z ≡ pos (up z)
+    natural (pos k) l = refl
+    natural (negsuc k) l = absurd (omega (arith, ≤→ℕ l))
+
+-- and so is a rank
+pub rank-natural : (q : Question) (v : ℤ) (p : ℕ) → Within 10000 v → rankOf q v p ≡ pos (4096 * up (pos 10000 +ℤ v) + turned q p)
+rank-natural q v p near = ap (λ (z : ℤ). pos 4096 *ℤ z +ℤ pos (turned q p)) (raised v near)
+
+-- the better rank has the better ordinates
+rank-better : (q : Question) (v w : ℤ) (p r : ℕ) → p ≤ 4095 → r ≤ 4095 → NoBetter q (rankOf q v p) (rankOf q w r) → NoBetter q v w
+rank-better Greatest v w p r k l e =
+    linear 4 (λ v w a b. lit 0 ≼ a ⇒ b ≼ lit 4095 ⇒ lit 4096 ⊗ (lit 10000 ⊕ v) ⊕ a ≼ lit 4096 ⊗ (lit 10000 ⊕ w) ⊕ b ⇒ v ≼ w) v w (pos (4095 - p)) (pos (4095 - r)) (omega arith) (ℕ→≤ (omega arith)) (ℕ→≤ (omega arith)) e
+rank-better Least v w p r k l e =
+    linear 4 (λ v w a b. a ≼ lit 4095 ⇒ lit 0 ≼ b ⇒ lit 4096 ⊗ (lit 10000 ⊕ w) ⊕ b ≼ lit 4096 ⊗ (lit 10000 ⊕ v) ⊕ a ⇒ w ≼ v) v w (pos p) (pos r) (omega arith) (ℕ→≤ (omega arith)) (ℕ→≤ (omega arith)) e
+
+-- and so is the best
+pub best-natural : (q : Question) (f : ℕ → ℤ) (m : ℕ) → ((p : ℕ) → Within 10000 (f p)) → pos 0 ≤ℤ bestRank q f m
+unfolding bestRank
+best-natural q f m near =
+    let met = extreme-met q m (λ p. rankOf q (f p) p) in
+    subst (λ (z : ℤ). pos 0 ≤ℤ z) (sym (rank-natural q (f (met .who)) (met .who) (near (met .who))) ∙ met .its) (pos-nonneg _)
+
+-- one place more
+pub ranks-more : (f : ℕ → ℤ) (m : ℕ) {best r : Ranks} {v : ℤ} → ((q : Question) → rankFor q r ≡ better q (rankFor q best) (rankOf q v (m + 1))) → v ≡ f (m + 1) → RanksRight f m best → RanksRight f (m + 1) r
+unfolding bestRank
+ranks-more f m step e right q = step q ∙ ap₂ (better q) (right q) (ap (λ (z : ℤ). rankOf q z (m + 1)) e) ∙ sym (extreme-step q m (λ p. rankOf q (f p) p))
+
+-- place 0 alone, where the pair counts nothing
+pub ranks-none : (f : ℕ → ℤ) {r : Ranks} → f 0 ≡ pos 0 → ((q : Question) → rankFor q r ≡ rankOf q (pos 0) 0) → RanksRight f 0 r
+unfolding bestRank
+ranks-none f start e q = e q ∙ ap (λ (z : ℤ). rankOf q z 0) (sym start)
+
+-- later places that count nothing change nothing
+pub ranks-skip : (f : ℕ → ℤ) (m k : ℕ) {r : Ranks} → m ≤ k → f 0 ≡ pos 0 → ((p : ℕ) → m < p → p ≤ k → f p ≡ pos 0) → RanksRight f m r → RanksRight f k r
+unfolding bestRank
+ranks-skip f m k l start none right q =
+    right q
+    ∙ no-better-antisym q (bestRank q f m) (bestRank q f k)
+    (extreme-least q m ranks (bestRank q f k) (λ p e. extreme-bounds q k ranks p (omega arith)))
+    (extreme-least q k ranks (bestRank q f m) (λ p e. elim (decLe p m) [
+      | yes i ↦ extreme-bounds q m ranks p i
+      | no i ↦ no-better-trans q (ranks p) (ranks 0) (bestRank q f m) (rw (none p (omega arith) e, start) (late q p)) (extreme-bounds q m ranks 0 (omega arith))
+    ]))
+  where
+    ranks : ℕ → ℤ
+    ranks p = rankOf q (f p) p
+
+    late : (q : Question) (p : ℕ) → NoBetter q (rankOf q (pos 0) p) (rankOf q (pos 0) 0)
+    late Greatest p = ℕ→≤ (omega arith)
+    late Least p = ℕ→≤ (omega arith)
+
+-- ---- the stand of the best rank
+side-bound : (q : Question) (line : InfluenceLine) (s : ℕ) (side : Side) → NoBetter q (pairAt line s side) (betterSide q line s)
+side-bound q line s Left = better-left q (pairAt line s Left) (pairAt line s Right)
+side-bound q line s Right = better-right q (pairAt line s Left) (pairAt line s Right)
+
+-- a place that has the best rank, and its stand
+pub record Leads (q : Question) (line : InfluenceLine) (m : ℕ) : Type 0 where
+  pub place : ℕ
+  pub early : place ≤ 2 * m + 1
+  pub is : bestRank q (placed line) (2 * m + 1) ≡ rankOf q (placed line place) place
+  pub stands : PairStands line m (extreme q m (betterSide q line)) (standOf (placed line place) place)
+
+pub leads : (q : Question) (line : InfluenceLine) (m : ℕ) → 2 * m + 1 ≤ 4095 → ((p : ℕ) → Within 10000 (placed line p)) → Leads q line m
+unfolding bestRank placed
+leads q line m few near =
+    let early = below in
+    record { place = w; early = below; is = sym (met .its); stands = record { value = same; attained = same; station = omega arith; near = subst (Within 10000) same (near w) } }
+  where
+    met : Met (2 * m + 1) (λ p. rankOf q (placed line p) p) (bestRank q (placed line) (2 * m + 1))
+    met = extreme-met q (2 * m + 1) (λ p. rankOf q (placed line p) p)
+
+    w : ℕ
+    w = met .who
+
+    below : w ≤ 2 * m + 1
+    below = met .below
+
+    -- no place beats it
+    unbeaten : (p i : ℕ) (side : Side) → p / 2 ≡ i → sideAt p ≡ side → p ≤ 2 * m + 1 → NoBetter q (pairAt line i side) (placed line w)
+    unbeaten p i side e f l =
+        let early = below in
+        subst (λ (z : ℤ). NoBetter q z (placed line w)) (ap₂ (pairAt line) e f)
+        (rank-better q (placed line p) (placed line w) p w (omega arith) (omega arith) (subst (NoBetter q (rankOf q (placed line p) p)) (sym (met .its)) (extreme-bounds q (2 * m + 1) (λ p. rankOf q (placed line p) p) p l)))
+
+    same : placed line w ≡ extreme q m (betterSide q line)
+    same =
+        let early = below in
+        no-better-antisym q (placed line w) (extreme q m (betterSide q line))
+        (no-better-trans q _ (betterSide q line (w / 2)) _ (side-bound q line (w / 2) (sideAt w)) (extreme-bounds q m (betterSide q line) (w / 2) (omega arith)))
+        (extreme-least q m (betterSide q line) (placed line w) (λ i l.
+        better-least q (pairAt line i Left) (pairAt line i Right) (placed line w)
+        (unbeaten (2 * i) i Left (omega arith) (even-side (2 * i) (omega arith)) (omega arith))
+        (unbeaten (2 * i + 1) i Right (omega arith) (odd-side (2 * i + 1) (λ e. omega arith)) (omega arith))))
+
+-- a stand with the sense's best pair is a right position: at most an axle spacing before the line, and not past its right end
+pub stands-position : (line : InfluenceLine) (sense : Sense) {s : Stand} → PairStands line (line .pieces + axleSpacing line) (bestPair line sense) s →
+    PositionRight line sense (record { station = station line (s .station); side = s .side })
+stands-position line sense {s} p =
+    let k = pos (s .station) in
+    let d = pos (axleSpacing line) in
+    record {
+      best = p .attained;
+      first = ℕ→≤ (omega (arith, subbed k d, up-neg d, dn-neg d));
+      last = ℕ→≤ (omega (arith, subbed k d, p .station));
+    }

@@ -1,0 +1,120 @@
+use mathlib.Core.Path.{_≡_}
+use mathlib.Core.List.{List}
+use Prim.Native.Nat.{ℕ, _+_, _-_, _*_, _/_, _<_}
+use native.Mathlib.Omega.{arith}
+use lib.IntN.{ℤ, pos}
+use mir.Syntax.{w32}
+use mir.Val.{toZ, ofZ}
+use Rattle.exact.specs.declared.Question.the-variants.{Greatest, Least}
+use Rattle.exact.proofs.Held.{back}
+use Rattle.model.specs.Decode.{influenceLine}
+use Rattle.line.specs.LineFits.{WordFits}
+use Rattle.line.specs.PairPlaces.{placed, RanksRight}
+use Rattle.line.proofs.Fitting.{fits-word}
+use Rattle.line.proofs.Places.{placed-ahead, placed-both, placed-behind, placed-start, placed-gap, placed-end, ranks-none, ranks-skip}
+use borrow.Author.Needs.{needs}
+use Rattle.line.proofs.pair.best_ranks.Statement.{statement}
+use Rattle.line.proofs.pair.best_ranks.Tie as tie
+
+places-apart-requires : tie.Need-places-apart-requires
+places-apart-requires c κs = search needs
+
+mul-end : tie.Need-mul-end
+mul-end c = search needs
+
+lesser-requires : tie.Need-lesser-requires
+lesser-requires c κs = search needs
+
+rank-requires : tie.Need-rank-requires
+rank-requires c κs = search needs
+
+rank-requires-2 : tie.Need-rank-requires-2
+rank-requires-2 c κs = search needs
+
+module _ (c : tie.After-rank2) where
+  abbrev cut : tie.After-lesser
+  cut = c .before .before
+
+  abbrev st : tie.Start
+  st = cut .before .before .before
+
+  abbrev s : List ℕ
+  s = st .args .line .now
+
+  abbrev h : ℕ
+  h = st .args .h
+
+  abbrev n : ℕ
+  n = st .args .n
+
+  abbrev apart : ℕ
+  apart = cut .before .places-apart .result
+
+  abbrev edge : ℕ
+  edge = cut .lesser .result
+
+  abbrev f : ℕ → ℤ
+  f = placed (influenceLine s h n)
+
+  spaced : apart ≡ 2 * (50 / h)
+  spaced = cut .before .places-apart .ensures .0
+
+  edged : edge ≡ apart - (apart - 2 * n)
+  edged = cut .lesser .ensures
+
+  word : (k : ℕ) → k < 2 * n → WordFits s k
+  word k l = fits-word (st .pre .0) k l
+
+  start : f 0 ≡ pos 0
+  start = placed-start s h n
+
+  none : RanksRight f 0 (record { greatest = toZ w32 (ofZ w32 (c .before .rank .result)); least = toZ w32 (ofZ w32 (c .rank2 .result)) })
+  none = ranks-none f start (λ q. elim q [ Greatest ↦ back w32 (c .before .rank .ok) (c .before .rank .ensures .0) | Least ↦ back w32 (c .rank2 .ok) (c .rank2 .ensures .0) ])
+
+stretch-requires : tie.Need-stretch-requires
+stretch-requires c κs = (omega arith, omega (arith, edged c, cut c .before .places-apart .ensures .1), λ k a b. word c k (omega (arith, edged c)))
+
+stretch-requires-2 : tie.Need-stretch-requires-2
+stretch-requires-2 c κs = let d = c .before in (omega (arith, edged d), omega (arith, st d .pre .0 .few), λ k a b. (omega (arith, edged d), word d (k - apart d) (omega arith), word d k (omega arith)))
+
+sub-from : tie.Need-sub-from
+sub-from c = search needs
+
+add-from : tie.Need-add-from
+add-from c = search needs
+
+add-stretch : tie.Need-add-stretch
+add-stretch c = search needs
+
+stretch-requires-3 : tie.Need-stretch-requires-3
+stretch-requires-3 c κs =
+    let d = c .before .before in
+    (omega (arith, edged d), omega (arith, st d .pre .0 .few, cut d .before .places-apart .ensures .1), λ k a b. (omega (arith, edged d), word d (k - apart d) (omega (arith, edged d))))
+
+-- the left axle is before the line, then both are on it, then the right one is past it
+returns : tie.Need-returns
+returns c =
+    let d = c .before .before .before in
+    let ahead = c .before .before .stretch .ensures (f d) (λ i a b. placed-ahead (s d) (h d) (n d) (i + 1) i (omega arith) (omega (arith, edged d)) (omega (arith, edged d, spaced d))) (none d) in
+    let both = c .before .stretch2 .ensures (f d) (λ i a b. placed-both (s d) (h d) (n d) (i + 1) i (i - apart d) (omega arith) (omega (arith, edged d, spaced d)) (omega arith)) ahead in
+    let behind =
+    c .stretch3 .ensures (f d) (λ i a b. placed-behind (s d) (h d) (n d) (i + 1) (i - apart d) (omega (arith, edged d, spaced d)) (omega (arith, edged d)) (omega (arith, edged d, spaced d)))
+    (ranks-skip (f d) (2 * n d) (2 * n d - edge d + apart d) (omega (arith, edged d)) (start d) (λ p a b. placed-gap (s d) (h d) (n d) p a (omega (arith, edged d, spaced d))) both) in
+    ranks-skip (f d) (2 * n d + apart d) (2 * (n d + 50 / h d) + 1) (omega (arith, spaced d)) (start d) (λ p a b. placed-end (s d) (h d) (n d) p (omega (arith, spaced d))) behind
+
+pub best-ranks-spec : {M : Type 1} → statement M
+best-ranks-spec =
+    tie.close
+    (tie.spec
+    places-apart-requires
+    mul-end
+    lesser-requires
+    rank-requires
+    rank-requires-2
+    stretch-requires
+    stretch-requires-2
+    sub-from
+    add-from
+    add-stretch
+    stretch-requires-3
+    returns)

@@ -1,0 +1,29 @@
+use mathlib.Core.Path.{_≡_, _∙_, ap₂}
+use lib.IntN.{ℤ}
+use mir.Syntax.{w32}
+use mir.Val.{SFits, toZ, ofZ}
+use Rattle.exact.specs.Questions.{better}
+use Rattle.exact.specs.declared.Question.{Question}
+use Rattle.exact.specs.declared.Question.the-variants.{Greatest, Least}
+use Rattle.exact.proofs.Held.{any, back}
+use Rattle.line.specs.PairPlaces.{rankOf, rankFor}
+use borrow.Author.Needs.{needs}
+use Rattle.line.proofs.pair.ranked.Statement.{statement}
+use Rattle.line.proofs.pair.ranked.Tie as tie
+
+improved-requires : tie.Need-improved-requires
+improved-requires c κs = search needs
+
+improved-requires-2 : tie.Need-improved-requires-2
+improved-requires-2 c κs = search needs
+
+-- rank and ordinates as they were passed
+passed : (s : tie.Start) (q : Question) → SFits w32 (rankFor q (s .args .best)) → better q (toZ w32 (ofZ w32 (rankFor q (s .args .best)))) (rankOf q (toZ w32 (ofZ w32 (s .args .v))) (s .args .place)) ≡ better q (rankFor q (s .args .best)) (rankOf q (s .args .v) (s .args .place))
+passed s q f = ap₂ (λ (r v : ℤ). better q r (rankOf q v (s .args .place))) (any f .is) (any (s .fits .v) .is)
+
+returns : tie.Need-returns
+returns c Greatest = let g = c .before .before in back w32 (g .improved .ok) (g .improved .ensures ∙ passed (g .before .before) Greatest (search needs))
+returns c Least = back w32 (c .improved2 .ok) (c .improved2 .ensures ∙ passed (c .before .before .before .before) Least (search needs))
+
+pub ranked-spec : {M : Type 1} → statement M
+ranked-spec = tie.close (tie.spec improved-requires improved-requires-2 returns)
