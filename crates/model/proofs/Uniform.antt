@@ -22,7 +22,7 @@ use Rattle.model.specs.Line.{axle, uniform, along, endSum, patchByte, lo
 use Rattle.model.specs.Arrangements.{Element, loadedParts, elementLine}
 use Rattle.model.specs.declared.Sense.{Sense}
 use Rattle.model.proofs.LineLimits.{Sided, above, below, OneSigned}
-use Rattle.model.proofs.Signs.{loaded-bound, multiple-zero, axle-scale}
+use Rattle.model.proofs.Signs.{loadedSum, loaded-bound, multiple-zero, axle-scale}
 use Rattle.model.proofs.Pair.{pair-bound}
 
 -- what both branches have, the choice has
