@@ -22,7 +22,7 @@ use Rattle.model.specs.declared.State.the-variants.{Absent, Reported}
 use Rattle.rows.specs.Tables.{TablesFit}
 use Rattle.rows.specs.declared.state.RowBoth.{RowBoth}
 use Rattle.rows.specs.declared.state.Found.{Found}
-use Rattle.rows.specs.Governed.{RowRight, rowFor, governs, governed, found, laterRow, withRow, Leads, FoundRight, stateBy, StateFound}
+use Rattle.rows.specs.Governed.{RowRight, rowFor, governs, governed, found, laterRow, withRow, RowFound, FoundRight, stateBy, StateFound}
 
 -- the first rows of tables that fit
 pub tables-to : {effects rows records : List ℕ} {n count : ℕ} (m : ℕ) → TablesFit effects rows records n count → m ≤ n → TablesFit effects rows records m count
@@ -47,12 +47,12 @@ module _ (q : Question) (effect : ℕ → Effect) (row : ℕ → Row) (traffic :
       (λ e. by-test (beats q (next .value) (sofar .value)) (λ t. RowRight q effect row traffic (if t then next else sofar)) (λ _. right) (λ _. old e))
 
   -- no row yet
-  pub leads-none : (x : Governing) → x .row ≡ 0 → Leads q effect row traffic limit 0 x
+  pub leads-none : (x : Governing) → x .row ≡ 0 → RowFound q effect row traffic limit 0 x
   unfolding governing
   leads-none x e = record { is = rw e refl; right = λ t. absurd (true≢false (sym (ap (λ (k : ℕ). eqb k 0) e) ∙ t)) }
 
   -- row n + 1 is of the state, and its value is right
-  leads-row : (n : ℕ) (sofar next : Governing) → isOf limit (row (suc n) .limit) ≡ true → Leads q effect row traffic limit n sofar → next .row ≡ suc n → RowRight q effect row traffic next → Leads q effect row traffic limit (suc n) (laterRow q sofar next)
+  leads-row : (n : ℕ) (sofar next : Governing) → isOf limit (row (suc n) .limit) ≡ true → RowFound q effect row traffic limit n sofar → next .row ≡ suc n → RowRight q effect row traffic next → RowFound q effect row traffic limit (suc n) (laterRow q sofar next)
   unfolding governing
   leads-row n sofar next t l e right = record {
     is =
@@ -70,7 +70,7 @@ module _ (q : Question) (effect : ℕ → Effect) (row : ℕ → Row) (traffic :
       is-next = ap (λ (k : ℕ). record { value = bestRow q effect traffic (row k); row = k }) (sym e) ∙ ap (λ (z : ℤ). record { value = z; row = next .row }) (sym (right .value))
 
   -- it is not
-  leads-other : (n : ℕ) (sofar : Governing) → isOf limit (row (suc n) .limit) ≡ false → Leads q effect row traffic limit n sofar → Leads q effect row traffic limit (suc n) sofar
+  leads-other : (n : ℕ) (sofar : Governing) → isOf limit (row (suc n) .limit) ≡ false → RowFound q effect row traffic limit n sofar → RowFound q effect row traffic limit (suc n) sofar
   unfolding governing
   leads-other n sofar t l = record {
     is = ap (λ (b : Bool). if b then laterIfBetter q (governs q effect row traffic limit n) (record { value = bestRow q effect traffic (row (suc n)); row = suc n }) else governs q effect row traffic limit n) t ∙ l .is;
@@ -127,7 +127,7 @@ same-rows q p row v w limit (suc n) =
     (λ _. same-rows q p row v w limit n)
 
 -- what was found, said of the state
-module _ (effect : ℕ → Effect) (row : ℕ → Row) (traffic : Question → Live → ℤ) (limit : Limit) (n : ℕ) (x : RowBoth) (f : (q : Question) → Leads q effect row (traffic q) limit n (rowFor q x)) where
+module _ (effect : ℕ → Effect) (row : ℕ → Row) (traffic : Question → Live → ℤ) (limit : Limit) (n : ℕ) (x : RowBoth) (f : (q : Question) → RowFound q effect row (traffic q) limit n (rowFor q x)) where
   has-found : (g : Governing) → has (found g) ≡ (if eqb (g .row) 0 then false else true)
   has-found g = by-test (eqb (g .row) 0) (λ t. has (if t then none else some (governed g)) ≡ (if t then false else true)) (λ _. refl) (λ _. refl)
 

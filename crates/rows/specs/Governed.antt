@@ -100,13 +100,13 @@ foundFor service x = x .service
 foundFor ultimate x = x .ultimate
 
 -- row x is the governing one among rows 1 .. n, and its value is right
-pub record Leads (q : Question) (effect : ℕ → Effect) (row : ℕ → Row) (traffic : Live → ℤ) (limit : Limit) (n : ℕ) (x : Governing) : Type 0 where
+pub record RowFound (q : Question) (effect : ℕ → Effect) (row : ℕ → Row) (traffic : Live → ℤ) (limit : Limit) (n : ℕ) (x : Governing) : Type 0 where
   pub is : governs q effect row traffic limit n ≡ found x
   pub right : eqb (x .row) 0 ≡ false → RowRight q effect row traffic x
 
 -- what was found is the governing row of each limit state for each question
 abbrev pub FoundRight : (effect : ℕ → Effect) → (row : ℕ → Row) → (traffic : Question → Live → ℤ) → ℕ → Found → Type 0
-FoundRight effect row traffic n x = (limit : Limit) (q : Question) → Leads q effect row (traffic q) limit n (rowFor q (foundFor limit x))
+FoundRight effect row traffic n x = (limit : Limit) (q : Question) → RowFound q effect row (traffic q) limit n (rowFor q (foundFor limit x))
 
 -- ---- the limit states
 -- a limit state by its governing rows: none where there is no row
