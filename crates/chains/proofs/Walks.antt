@@ -1,12 +1,12 @@
 -- A walk by the record that it starts from, and the test for an effect named twice as a search along the chain makes it.
 use mathlib.Core.Path.{_≡_, refl, sym, _∙_, ap, ap₂}
-use mathlib.Core.Bool.{Bool, true, false, not, _&&_, _||_, true≢false, and-eq-true-iff, or-true}
+use mathlib.Core.Bool.{Bool, true, false, not, _&&_, _||_, true≢false, and-eq-true-iff, or-true, or-false, and-false}
 use mathlib.Core.List.{List}
-use Prim.Native.Nat.{ℕ, zero, suc, _+_, _-_, _*_, _≤_, _<_}
+use Prim.Native.Nat.{ℕ, zero, suc, _+_, _-_, _*_, _≤_}
 use native.Mathlib.Decide.{decLe, ℕ-discrete}
 use native.Mathlib.Omega.{arith}
 use lib.Dec.{eqb}
-use lib.ListN.{length, getD, set}
+use lib.ListN.{length, getD, set, replicate, length-set, getD-replicate}
 use lib.Seq.{getD-set-same, getD-set-other}
 use borrow.Author.Tests.{eq-eqb, ne-eqb}
 use Rattle.exact.specs.Ranges.{anyTo}
@@ -41,69 +41,72 @@ pub walk-start : (s : List ℕ) (c left : ℕ) → left ≡ 0 → walk s c left 
 unfolding walk
 walk-start s c left e = rw e refl
 
--- one record further, as the code counts
-pub walk-more : (s : List ℕ) (c j : ℕ) → ¬ (walk s c j ≡ 0) → nextRecord s (walk s c j) ≡ walk s c (j + 1)
-unfolding walk
-walk-more s c j h = let e : j + 1 ≡ suc j = omega arith in rw e (go (walk s c j) h)
-  where
-    go : (k : ℕ) → ¬ (k ≡ 0) → nextRecord s k ≡ step s k
-    go zero h = absurd (h refl)
-    go (suc k) h = refl
+-- effect e is named before step j
+abbrev named : List ℕ → (c j e : ℕ) → Bool
+named s c j e = anyTo j (λ i. eqb (recordEffect s (walk s c i)) e)
 
-module _ (s : List ℕ) (c : ℕ) where
-  -- effect e is named before step j
-  abbrev pub named : ℕ → ℕ → Bool
-  named j e = anyTo j (λ i. eqb (recordEffect s (walk s c i)) e)
+-- step j is on the chain and its effect is named before
+abbrev again : List ℕ → (c j : ℕ) → Bool
+again s c j = not (eqb (walk s c j) 0) && named s c j (recordEffect s (walk s c j))
 
-  -- step j is on the chain and its effect is named before
-  abbrev pub again : ℕ → Bool
-  again j = not (eqb (walk s c j) 0) && named j (recordEffect s (walk s c j))
+-- the walk from c stands at step j, on this record, with the effects before it flagged, none named twice
+pub record Walked (s : List ℕ) (c j at : ℕ) (seen : List Bool) : Type 0 where
+  pub here : at ≡ walk s c j
+  pub flags : length seen ≡ 17
+  pub flagged : (e : ℕ) → e ≤ 16 → getD seen e false ≡ named s c j e
+  pub once : anyTo j (again s c) ≡ false
 
-  -- no repeat before the chain's end: none at all
-  pub never-twice : (most j : ℕ) → walk s c j ≡ 0 → anyTo j again ≡ false → namesTwice s most c ≡ false
+pub walked-none : (s : List ℕ) (c : ℕ) → Walked s c 0 c (replicate 17 false)
+walked-none s c = record { here = sym (walk-start s c 0 refl); flags = refl; flagged = λ e h. getD-replicate 17 e false false (omega arith); once = refl }
+
+module _ {s : List ℕ} {c j at : ℕ} {seen : List Bool} (w : Walked s c j at seen) where
+  -- the chain is over: it names no effect twice
+  pub walked-all : (n : ℕ) → at ≡ 0 → namesTwice s n c ≡ false
   unfolding namesTwice repeats
-  never-twice most j z e = by-test (anyTo (suc most) again) (λ b. b ≡ false) (λ t. let r = any-true (suc most) again t in absurd (found (r .0) (r .2))) (λ _. refl)
+  walked-all n z = by-test (anyTo (suc n) (again s c)) (λ b. b ≡ false) (λ t. let r = any-true (suc n) (again s c) t in absurd (found (r .0) (r .2))) (λ _. refl)
     where
-      found : (i : ℕ) → ¬ (again i ≡ true)
+      found : (i : ℕ) → ¬ (again s c i ≡ true)
       found i t = elim (decLe j i) [
-        | yes h ↦ true≢false (sym (and-eq-true-iff (not (eqb (walk s c i) 0)) _ .0 t .0) ∙ ap not (eq-eqb _ _ (ended s c j i z h)))
-        | no h ↦ true≢false (sym (any-intro j again i (omega arith) t) ∙ e)
+        | yes h ↦ true≢false (sym (and-eq-true-iff (not (eqb (walk s c i) 0)) _ .0 t .0) ∙ ap not (eq-eqb _ _ (ended s c j i (sym (w .here) ∙ z) h)))
+        | no h ↦ true≢false (sym (any-intro j (again s c) i (omega arith) t) ∙ w .once)
       ]
 
-  -- none before the chain has passed all n records: one only where it goes on
-  pub twice-beyond : (n : ℕ) → Bounded s n c → anyTo n again ≡ false → namesTwice s n c ≡ not (eqb (walk s c n) 0)
+  -- it has passed as many records as there are: it names one twice where it goes on
+  pub walked-past : {n : ℕ} → Bounded s n c → j ≡ n → not (eqb at 0) ≡ namesTwice s n c
   unfolding namesTwice
-  twice-beyond n m e = elim (ℕ-discrete (walk s c n) 0) [
-    | yes z ↦ never-twice n n z e ∙ sym (ap not (eq-eqb _ _ z))
-    | no long ↦ long-repeats s n c m long (recordEffect s) ∙ sym (ap not (ne-eqb _ _ long))
+  walked-past {n} m e = elim (ℕ-discrete at 0) [
+    | yes z ↦ ap not (eq-eqb _ _ z) ∙ sym (walked-all n z)
+    | no long ↦ ap not (ne-eqb _ _ long) ∙ sym (long-repeats s n c m (λ z. long (w .here ∙ ap (walk s c) e ∙ z)) (recordEffect s))
   ]
 
-  -- a repeat at step j
-  pub twice : (most j : ℕ) → j ≤ most → ¬ (walk s c j ≡ 0) → named j (recordEffect s (walk s c j)) ≡ true → namesTwice s most c ≡ true
-  unfolding namesTwice repeats
-  twice most j h n t = any-intro (suc most) again j (omega arith) (and-eq-true-iff _ _ .1 (ap not (ne-eqb _ _ n), t))
+  -- it is on a record, and e is the record's effect
+  module _ {e : ℕ} (on : ¬ (at ≡ 0)) (read : e ≡ recordEffect s at) (few : e ≤ 16) where
+    is : e ≡ recordEffect s (walk s c j)
+    is = read ∙ ap (recordEffect s) (w .here)
 
-  -- none at step j: none before the next
-  pub not-again : (j : ℕ) → anyTo j again ≡ false → named j (recordEffect s (walk s c j)) ≡ false → anyTo (j + 1) again ≡ false
-  not-again j e f = any-step j again ∙ ap₂ _||_ e (ap (λ (b : Bool). not (eqb (walk s c j) 0) && b) f ∙ no-and (not (eqb (walk s c j) 0)))
-    where
-      no-and : (b : Bool) → (b && false) ≡ false
-      no-and true = refl
-      no-and false = refl
+    flag : getD seen e false ≡ named s c j (recordEffect s (walk s c j))
+    flag = w .flagged e few ∙ ap (named s c j) is
 
-  -- the flags after step j's effect is marked
-  pub marked : (seen : List Bool) (j : ℕ) → recordEffect s (walk s c j) < length seen → ((e : ℕ) → e ≤ 16 → getD seen e false ≡ named j e) →
-      (e : ℕ) → e ≤ 16 → getD (set seen (recordEffect s (walk s c j)) true) e false ≡ named (j + 1) e
-  marked seen j l h e k =
-      let it = recordEffect s (walk s c j) in
-      elim (ℕ-discrete e it) [
-        | yes p ↦
-            rw p (getD-set-same seen it true false l ∙ sym (any-step j _ ∙ ap (λ (b : Bool). named j it || b) (eq-eqb it it refl) ∙ or-true (named j it)))
+    -- e is flagged
+    pub walked-twice : {n : ℕ} → j ≤ n → getD seen e false ≡ true → namesTwice s n c ≡ true
+    unfolding namesTwice repeats
+    walked-twice {n} h t = any-intro (suc n) (again s c) j (omega arith) (and-eq-true-iff _ _ .1 (ap not (ne-eqb _ _ (λ z. on (w .here ∙ z))), sym flag ∙ t))
+
+    -- it is not: it is now, and the walk goes on
+    pub walked-on : {next : ℕ} → getD seen e false ≡ false → next ≡ nextRecord s at → Walked s c (j + 1) next (set seen e true)
+    unfolding walk
+    walked-on f g = record {
+      here = let k : j + 1 ≡ suc j = omega arith in rw k (g ∙ stepped at on ∙ ap (step s) (w .here));
+      flags = simp length-set (w .flags);
+      flagged = λ k h. elim (ℕ-discrete k e) [
+        | yes p ↦ rw p (getD-set-same seen e true false (omega (arith, w .flags)) ∙ sym (any-step j _ ∙ ap (λ (b : Bool). named s c j e || b) (eq-eqb _ e (sym is)) ∙ or-true (named s c j e)))
         | no p ↦
-            getD-set-other seen it e true false p ∙ h e k
-            ∙ sym (any-step j _ ∙ ap (λ (b : Bool). named j e || b) (ne-eqb it e (λ q. p (sym q))) ∙ no-or (named j e))
-      ]
-    where
-      no-or : (b : Bool) → (b || false) ≡ b
-      no-or true = refl
-      no-or false = refl
+            getD-set-other seen e k true false p ∙ w .flagged k h
+            ∙ sym (any-step j _ ∙ ap (λ (b : Bool). named s c j k || b) (ne-eqb _ k (λ q. p (sym q ∙ sym is))) ∙ or-false (named s c j k))
+      ];
+      once = any-step j (again s c) ∙ ap₂ _||_ (w .once) (ap (λ (b : Bool). not (eqb (walk s c j) 0) && b) (sym flag ∙ f) ∙ and-false (not (eqb (walk s c j) 0)));
+    }
+      where
+        stepped : (k : ℕ) → ¬ (k ≡ 0) → nextRecord s k ≡ step s k
+        stepped zero h = absurd (h refl)
+        stepped (suc k) h = refl

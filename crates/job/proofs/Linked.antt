@@ -53,6 +53,10 @@ pub repeats-alone : (b : List ℕ) → fault7 b ≡ none → fault8 b ≡ rowFau
 unfolding fault8
 repeats-alone b c7 = rows-same b (λ i h. ap (λ (t : Bool). t || not (chainNamesTwice b (i + 1))) (no-return b c7 i h))
 
+-- what the code finds of a chain, of row i
+pub passes : (b : List ℕ) (i : ℕ) {records : List ℕ} {f n : ℕ} → records ≡ sectionOf b Records → f ≡ firstRecord (sectionOf b Rows) (i + 1) → n ≡ headerOf b .records → (defect : Defect) {r : Bool} → r ≡ isDefective defect records n f → chainPasses defect b i ≡ not r
+passes b i {f = f} {n = n} e g k defect t = ap not (sym (t ∙ ap (λ (s : List ℕ). isDefective defect s n f) e ∙ ap₂ (isDefective defect (sectionOf b Records)) k g))
+
 module _ (b : List ℕ) {head : Header} (z : Sized b head) where
   records-long : length (sectionOf b Records) ≡ 12 * headerOf b .records
   records-long = let e = part-length z Records in omega arith
@@ -88,10 +92,6 @@ module _ (b : List ℕ) {head : Header} (z : Sized b head) where
         once : (i : ℕ) → i < headerOf b .rows → chainNamesTwice b (i + 1) ≡ false
         once i h = not-true _ (first-fits (rowTests (headerOf b .rows) (chainPasses Repeat b)) (sectionOf b Rows) (moved-none _ _ e) i h (omega arith))
 
-    -- what the code requires and finds of row i's chain, where it has the record section, the first record and the count
-    module _ (i : ℕ) (h : i < headerOf b .rows) {records : List ℕ} {f n : ℕ} (e : records ≡ sectionOf b Records) (g : f ≡ firstRecord (sectionOf b Rows) (i + 1)) (k : n ≡ headerOf b .records) where
-      pub first-held : 12 * f ≤ length records
-      first-held = omega (arith, section-long e k, k, g, first-most i h)
-
-      pub passes : (defect : Defect) {r : Bool} → r ≡ isDefective defect records n f → chainPasses defect b i ≡ not r
-      passes defect t = ap not (sym (t ∙ ap (λ (s : List ℕ). isDefective defect s n f) e ∙ ap₂ (isDefective defect (sectionOf b Records)) k g))
+    -- the record section holds row i's first record, as the code has both and the count
+    pub first-held : (i : ℕ) → i < headerOf b .rows → {records : List ℕ} {f n : ℕ} → records ≡ sectionOf b Records → f ≡ firstRecord (sectionOf b Rows) (i + 1) → n ≡ headerOf b .records → 12 * f ≤ length records
+    first-held i h e g k = omega (arith, section-long e k, k, g, first-most i h)

@@ -11,11 +11,10 @@ use Rattle.exact.proofs.Bridge.{by-test}
 use Rattle.model.specs.Fields.{moved, itemMisfit, misfit}
 use Rattle.model.specs.Format.{headerOf, sectionOf}
 use Rattle.model.specs.Decode.{firstRecord}
-use Rattle.model.specs.Refusals.{rowTests, fault6}
+use Rattle.model.specs.Refusals.{rowTests}
 use Rattle.model.specs.declared.Header.{Header}
 use Rattle.model.specs.declared.Part.the-variants.{Rows}
 use Rattle.chains.specs.Linked.{Linked, EffectsTo}
-use Rattle.job.specs.Sized.{Sized}
 use Rattle.job.specs.Defects.{chainPasses}
 use Rattle.job.proofs.Scans.{Searched, search-begins, search-goes-on, search-found, search-over}
 use Rattle.job.proofs.Sizes.{part-length}
@@ -38,30 +37,21 @@ section-requires-2 c κs = c .before .before .pre .0
 loop-holds : tie.Need-loop-holds Inv-loop μ-loop
 loop-holds c = search-begins _ _
 
-here : (c : tie.In-loop Inv-loop μ-loop) → c .before .loop .i < headerOf (c .before .before .before .before .before .args .s .now) .rows
-here c = omega (arith, ap (λ (h : Header). h .rows) (c .before .before .before .before .before .pre .0 .own), c .loop-test .taken)
-
-module _ (c : tie.After-count Inv-loop μ-loop) where
+module _ (c : tie.In-loop Inv-loop μ-loop) where
   abbrev st : tie.Start Inv-loop μ-loop
-  st = c .before .before .before .before .before .before
+  st = c .before .before .before .before .before
 
   abbrev b : List ℕ
   b = st .args .s .now
 
   abbrev i : ℕ
-  i = c .before .before .loop .i
+  i = c .before .loop .i
 
-  abbrev z : Sized b (st .args .head)
-  z = st .pre .0
-
-  abbrev clear : fault6 b ≡ none
-  clear = st .pre .1
-
-  first : c .count .result ≡ firstRecord (sectionOf b Rows) (i + 1)
-  first = first-is b i (c .before .before .before .before .section .ensures) (c .count .ensures .0)
+  here : i < headerOf b .rows
+  here = omega (arith, ap (λ (h : Header). h .rows) (st .pre .0 .own), c .loop-test .taken)
 
   count : st .args .head .records ≡ headerOf b .records
-  count = ap (λ (h : Header). h .records) (z .own)
+  count = ap (λ (h : Header). h .records) (st .pre .0 .own)
 
 mul-count : tie.Need-mul-count Inv-loop μ-loop
 mul-count c = omega arith
@@ -70,24 +60,27 @@ add-count : tie.Need-add-count Inv-loop μ-loop
 add-count c = omega arith
 
 count-requires : tie.Need-count-requires Inv-loop μ-loop
-count-requires c κs =
-    let st = c .before .before .before .before .before in
-    omega (arith, ap length (c .before .before .before .section .ensures), part-length (st .pre .0) Rows, here c)
+count-requires c κs = omega (arith, ap length (c .before .before .before .section .ensures), part-length (st c .pre .0) Rows, here c)
+
+first : (c : tie.After-count Inv-loop μ-loop) → c .count .result ≡ firstRecord (sectionOf (b (c .before)) Rows) (i (c .before) + 1)
+first c = let d = c .before in first-is (b d) (i d) (d .before .before .before .section .ensures) (c .count .ensures .0)
 
 is-defective-requires : tie.Need-is-defective-requires Inv-loop μ-loop
 is-defective-requires c κs =
-    let s = c .before .before .before .section2 .ensures in (
-      subst Linked (sym s) (linked (b c) (z c) (clear c)),
-      subst (EffectsTo 16) (sym s) (effects-few (b c) (z c) (clear c)),
-      first-held (b c) (z c) (clear c) (i c) (here (c .before)) s (first c) (count c),
-      section-long (b c) (z c) s (count c),
+    let d = c .before in
+    let p = st d .pre in
+    let e = d .before .before .section2 .ensures in (
+      subst Linked (sym e) (linked (b d) (p .0) (p .1)),
+      subst (EffectsTo 16) (sym e) (effects-few (b d) (p .0) (p .1)),
+      first-held (b d) (p .0) (p .1) (i d) (here d) e (first c) (count d),
+      section-long (b d) (p .0) e (count d),
     )
 
 -- the call's answer is row i's
-found : (c : tie.After-is-defective Inv-loop μ-loop) {t : Bool} → c .is-defective .result ≡ t → itemMisfit (rowTests (headerOf (b (c .before)) .rows) (chainPasses (st (c .before) .args .defect) (b (c .before))) .fields) (sectionOf (b (c .before)) Rows) (i (c .before)) ≡ (if t then some (4 * i (c .before)) else none)
+found : (c : tie.After-is-defective Inv-loop μ-loop) {t : Bool} → c .is-defective .result ≡ t → itemMisfit (rowTests (headerOf (b (c .before .before)) .rows) (chainPasses (st (c .before .before) .args .defect) (b (c .before .before))) .fields) (sectionOf (b (c .before .before)) Rows) (i (c .before .before)) ≡ (if t then some (4 * i (c .before .before)) else none)
 found c {t} e =
-    let d = c .before in
-    let p = passes (b d) (z d) (clear d) (i d) (here (d .before)) (d .before .before .before .section2 .ensures) (first d) (count d) (st d .args .defect) (c .is-defective .ensures) in
+    let d = c .before .before in
+    let p = passes (b d) (i d) (d .before .before .section2 .ensures) (first (c .before)) (count d) (st d .args .defect) (c .is-defective .ensures) in
     rw (p, e) (by-test t (λ t. moved (4 * i d) (if not t then none else some 0) ≡ (if t then some (4 * i d) else none)) (λ _. ap some (add-zero (4 * i d))) (λ _. refl))
 
 mul-t14 : tie.Need-mul-t14 Inv-loop μ-loop
@@ -96,8 +89,8 @@ mul-t14 c = omega arith
 returns : tie.Need-returns Inv-loop μ-loop
 unfolding misfit
 returns c =
-    let d = c .before .before in
-    sym (search-found (d .before .before .loop .inv) (here (d .before)) (found (c .before) (c .if1 .taken)))
+    let d = c .before .before .before in
+    sym (search-found (d .before .loop .inv) (here d) (found (c .before) (c .if1 .taken)))
 
 add-i : tie.Need-add-i Inv-loop μ-loop
 add-i c = omega arith
@@ -106,7 +99,7 @@ loop-less : tie.Need-loop-less Inv-loop μ-loop
 loop-less c = omega arith
 
 loop-again : tie.Need-loop-again Inv-loop μ-loop
-loop-again c = let d = c .before .before in search-goes-on (d .before .before .loop .inv) (here (d .before)) (found (c .before) (c .if1 .left))
+loop-again c = let d = c .before .before .before in search-goes-on (d .before .loop .inv) (here d) (found (c .before) (c .if1 .left))
 
 returns-2 : tie.Need-returns-2 Inv-loop μ-loop
 unfolding misfit
