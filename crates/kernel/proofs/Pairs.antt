@@ -6,17 +6,18 @@ use mir.Syntax.{w64}
 use mir.Val.{toZ, ofZ}
 use Rattle.exact.specs.Bounds.{Within}
 use Rattle.exact.proofs.Held.{known, told}
+use Rattle.model.specs.Bounds.{trafficMost}
 use Rattle.rows.specs.declared.state.Live.{Live}
 
 -- a number near enough, read back
-back : {z : ℤ} → Within 1000000000000 z → toZ w64 (ofZ w64 z) ≡ z
+back : {z : ℤ} → Within trafficMost z → toZ w64 (ofZ w64 z) ≡ z
 back n = known w64 n (lit< tt) .is
 
-pub near-back : {z : ℤ} → Within 1000000000000 z → Within 1000000000000 (toZ w64 (ofZ w64 z))
+pub near-back : {z : ℤ} → Within trafficMost z → Within trafficMost (toZ w64 (ofZ w64 z))
 near-back n = told (known w64 n (lit< tt)) .1
 
 abbrev pub pairOf : ℤ → ℤ → Live
 pairOf x y = record { normal = x; overload = y }
 
-pub pair-back : {x y : ℤ} → Within 1000000000000 x → Within 1000000000000 y → pairOf (toZ w64 (ofZ w64 x)) (toZ w64 (ofZ w64 y)) ≡ pairOf x y
+pub pair-back : {x y : ℤ} → Within trafficMost x → Within trafficMost y → pairOf (toZ w64 (ofZ w64 x)) (toZ w64 (ofZ w64 y)) ≡ pairOf x y
 pair-back m n = ap₂ pairOf (back m) (back n)

@@ -14,6 +14,7 @@ use Rattle.model.specs.declared.Sense.the-variants.{Raising, Lowering}
 use Rattle.model.specs.declared.Traffic.{Traffic}
 use Rattle.model.specs.declared.State.{State}
 use Rattle.model.specs.declared.Account.{Account}
+use Rattle.model.specs.Bounds.{trafficMost}
 use Rattle.job.specs.Header.{headerOf}
 use Rattle.job.specs.declared.header.Header.{Header}
 use Rattle.lanes.specs.Loadings.{TrafficPlaced}
@@ -31,8 +32,8 @@ pub record Ready (b : List ℕ) (head : Header) : Type 0 where
 pub record TrafficFound (job : Job) (live : Live) (t : Traffic) : Type 0 where
   pub greatest : TrafficPlaced Greatest job live (t .greatest)
   pub least : TrafficPlaced Least job live (t .least)
-  pub nearGreatest : Within 1000000000000 (t .greatest .value)
-  pub nearLeast : Within 1000000000000 (t .least .value)
+  pub nearGreatest : Within trafficMost (t .greatest .value)
+  pub nearLeast : Within trafficMost (t .least .value)
 
 -- both live kinds', and the number of lanes
 pub record ValuesRight (job : Job) (v : TrafficValues) : Type 0 where

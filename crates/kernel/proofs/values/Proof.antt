@@ -6,6 +6,7 @@ use Rattle.exact.specs.declared.Question.the-variants.{Greatest, Least}
 use Rattle.model.specs.Job.{Job}
 use Rattle.model.specs.Decode.{decode}
 use Rattle.model.specs.Line.{HN, HO}
+use Rattle.model.specs.Bounds.{hnLineMost, hoLineMost}
 use Rattle.lanes.specs.Transverse.{TransverseFits}
 use Rattle.lanes.specs.Spans.{Spanned}
 use Rattle.lanes.specs.Loadings.{LineEffectsFit, effectsOf}
@@ -58,13 +59,13 @@ module _ (c : tie.After-across-of) where
   hn-are : hn ≡ effectsOf job HN
   hn-are = effects-are job HN (st .pre .1 .0) (st .pre .1 .1) (formed .before .before .before .effect .ensures) (formed .before .before .effect2 .ensures)
 
-  hn-fit : LineEffectsFit 86000000 hn
+  hn-fit : LineEffectsFit hnLineMost hn
   hn-fit = effects-fit job HN (st .pre .1 .0) (st .pre .1 .1) (formed .before .before .before .effect .ensures) (formed .before .before .effect2 .ensures)
 
   ho-are : ho ≡ effectsOf job HO
   ho-are = effects-are job HO (st .pre .1 .0) (st .pre .1 .1) (formed .before .effect3 .ensures) (formed .effect4 .ensures)
 
-  ho-fit : LineEffectsFit 102000000 ho
+  ho-fit : LineEffectsFit hoLineMost ho
   ho-fit = effects-fit job HO (st .pre .1 .0) (st .pre .1 .1) (formed .before .effect3 .ensures) (formed .effect4 .ensures)
 
   over : Spanned job (c .across-of .result)
