@@ -30,7 +30,7 @@ fn ordinate(across: &[u8], d: usize, centre: usize) -> i64
     ((d - j) as i64) * words::word(across, m) + (j as i64) * words::word(across, m + 1)
 }
 
-// The centre, or the best so far.
+// The centre at a place if its ordinate beats the best so far, else that.
 fn consider(q: Question, across: &[u8], d: usize, best: Centre, at: usize) -> Centre
     requires { ⌜ 0 < d ⌝ }
     requires { ⌜ d ≤ 250 ⌝ }
@@ -111,7 +111,7 @@ pub struct Across {
     pub unit: usize,
 }
 
-// Of a carriageway, by its transverse section, its width and the spacing g.
+// What lies across a carriageway, by its transverse section, its width and the spacing g.
 pub fn across_of(section: &[u8], width: usize, g: usize) -> Across
     requires { ⌜ TransverseFits (now section) width g ⌝ }
     ensures { λ r. ⌜ AcrossRight (carriageway (now (section .entry)) width g) r ⌝ }

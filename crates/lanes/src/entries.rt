@@ -69,7 +69,7 @@ pub struct Elements {
     pub values: [i64; 5],
 }
 
-// Those of n lanes under these line effects.
+// The best elements of n lanes under these line effects.
 pub(crate) fn choose_all(
     q: Question,
     spans: [Span; 5],

@@ -73,7 +73,7 @@ struct Pick {
     at: usize,
 }
 
-// A lane that is left and no worse than the best so far, or that.
+// A lane that is left and no worse than the best so far, else the best so far.
 fn consider(q: Question, best: Pick, left: bool, value: i64, at: usize) -> Pick
     ensures { λ r. ⌜ r ≡ (if left then (if beatsFor q (best .value) value then best else record { value = value; at = at }) else best) ⌝ }
 {
@@ -193,7 +193,7 @@ fn overload_at(q: Question, hn: [i64; 5], n: usize, ho: i64, lane: usize) -> Loa
     }
 }
 
-// The better of two, the first at a tie.
+// The better of two loadings, the first at a tie.
 fn better(q: Question, a: Loading, b: Loading) -> Loading
     ensures { λ r. ⌜ r ≡ (if beatsFor q (b .value) (a .value) then b else a) ⌝ }
 {
