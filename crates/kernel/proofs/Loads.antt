@@ -1,13 +1,14 @@
 -- What the traffic values ask of an accepted job: its line effects, what lies across and the dynamic factor.
 use mathlib.Core.Path.{_≡_, refl, sym, _∙_, ap₂, subst}
 use mathlib.Core.List.{List}
-use Prim.Native.Nat.{ℕ, _+_, _*_}
+use Prim.Native.Nat.{ℕ, _+_, _*_, _≤_}
 use lib.Dec.{lit<}
 use lib.IntN.{ℤ, pos}
 use lib.Signed.{_≤ℤ_}
 use mir.Syntax.{w64}
 use mir.Val.{toZ, ofZ}
 use Rattle.exact.specs.Parts.{up}
+use Rattle.exact.proofs.Bounds.{within-le}
 use Rattle.exact.proofs.Held.{Room, known, told}
 use Rattle.exact.specs.declared.Question.{Question}
 use Rattle.model.specs.Job.{Job}
@@ -56,6 +57,10 @@ module _ (job : Job) (kind : Kind) {raising lowering : Sought} (above : SoughtRi
     raising = told (known w64 (a .near) (room kind)) .1;
     lowering = told (known w64 (b .near) (room kind)) .1;
   }
+
+-- a wider bound
+pub wider : {m n : ℕ} {e : Effects} → m ≤ n → LineEffectsFit m e → LineEffectsFit n e
+wider h f = record { up = f .up; down = f .down; raising = within-le (f .raising) h; lowering = within-le (f .lowering) h }
 
 -- what lies across, as it was found
 module _ {b : List ℕ} {head : Header} (ready : Ready b head) where

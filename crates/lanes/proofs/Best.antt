@@ -26,21 +26,22 @@ use Rattle.model.specs.Job.{Live, noTraffic, normal, overload}
 use Rattle.model.specs.Lanes.{bit, without, reduction}
 use Rattle.model.specs.Traffic.{setSum, bestNormal, bestOverload}
 use Rattle.model.proofs.Sets.{ones-count, without-bit}
+use Rattle.model.specs.Bounds.{hnLaneMost, setMost}
 use Rattle.lanes.specs.Sets.{BestBeside, OverloadAt, bestFor, LoadingRight}
 use Rattle.lanes.specs.declared.sets.Loading.{Loading}
 use Rattle.lanes.proofs.Reduced.{reduced-near}
 use Rattle.lanes.proofs.SetNumbers.{bit-past, without-le}
 
 -- how far from zero a set's sum is
-pub set-near : (n : ℕ) (v : ℕ → ℤ) (set : ℕ) → n ≤ 5 → ((i : ℕ) → i < n → Within 21500000000000 (v i)) → set < 2 ^ n → Within 1290000000000000 (setSum reduction n v set)
+pub set-near : (n : ℕ) (v : ℕ → ℤ) (set : ℕ) → n ≤ 5 → ((i : ℕ) → i < n → Within hnLaneMost (v i)) → set < 2 ^ n → Within setMost (setSum reduction n v set)
 unfolding setSum
 set-near n v set few near small =
     let e = ones-count n set small in
     let m = count-le n (bit set) in
-    reduced-near (ones set) _ (omega arith) (within-le (sum-near 21500000000000 n (bit set) v near) (omega arith))
+    reduced-near (ones set) _ (omega arith) (within-le (sum-near hnLaneMost n (bit set) v near) (omega arith))
 
 -- without HO: the best of all sets
-pub normal-right : (q : Question) (n : ℕ) (v : ℕ → ℤ) (x : ℤ) (set : ℕ) → n ≤ 5 → ((i : ℕ) → i < n → Within 21500000000000 (v i)) → BestBeside q n v 5 n x set →
+pub normal-right : (q : Question) (n : ℕ) (v : ℕ → ℤ) (x : ℤ) (set : ℕ) → n ≤ 5 → ((i : ℕ) → i < n → Within hnLaneMost (v i)) → BestBeside q n v 5 n x set →
     (ho : ℕ → ℤ) → LoadingRight q normal n v ho (record { value = x; lane = 5; set = set })
 unfolding bestNormal
 normal-right q n v x set few near b ho =
@@ -54,7 +55,7 @@ normal-right q n v x set few near b ho =
       value = b .value ∙ solve 1 (λ s. s ≐ lit 20 ⊗ lit 0 ⊕ s) tt (f set) ∙ ap (λ (z : ℤ). pos 20 *ℤ z +ℤ f set) (sym (sum-zero n _ (λ i h. ap (λ (t : Bool). if t then ho i else pos 0) (no i h))));
       best = no-better-antisym q x (extreme q (2 ^ n - 1) f) (subst (λ (z : ℤ). NoBetter q z (extreme q (2 ^ n - 1) f)) (sym (b .value)) (extreme-bounds q (2 ^ n - 1) f set (le-ones n (b .small))))
           (extreme-least q (2 ^ n - 1) f x (λ s l. let h = lt-of-le-ones n l in b .unbeaten s h (bit-past n s 5 h few) (count-le n (bit s))));
-      near = within-le (subst (Within 1290000000000000) (sym (b .value)) (set-near n v set few near (b .small))) (omega arith);
+      near = within-le (subst (Within setMost) (sym (b .value)) (set-near n v set few near (b .small))) (omega arith);
     }
 
 -- ---- overload

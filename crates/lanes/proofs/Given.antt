@@ -15,6 +15,7 @@ use Rattle.exact.proofs.Held.{known, told}
 use Rattle.model.specs.Job.{Job, Live}
 use Rattle.model.specs.Line.{Kind, HN, HO}
 use Rattle.model.specs.Traffic.{laneEffect}
+use Rattle.model.specs.Bounds.{ordinateMost, hoLineMost}
 use Rattle.lanes.specs.Spans.{AcrossFits, Spanned, noSpan}
 use Rattle.lanes.specs.Entries.{noElement, AllChosen}
 use Rattle.lanes.specs.Sets.{valueAt, ValuesFit, LoadingRight}
@@ -27,15 +28,15 @@ use Rattle.lanes.specs.declared.traffic.Effects.{Effects}
 use Rattle.lanes.proofs.Best.{loading-cong}
 use Rattle.lanes.proofs.Elements.{best-near, best-some, chosen-element}
 
-module _ (e : Effects) {b : ℕ} (fit : LineEffectsFit b e) (small : b ≤ 102000000) where
-  raising-near : Within 102000000 (e .raising)
+module _ (e : Effects) {b : ℕ} (fit : LineEffectsFit b e) (small : b ≤ hoLineMost) where
+  raising-near : Within hoLineMost (e .raising)
   raising-near = within-le (fit .raising) small
 
-  lowering-near : Within 102000000 (e .lowering)
+  lowering-near : Within hoLineMost (e .lowering)
   lowering-near = within-le (fit .lowering) small
 
   -- line effects as they are read
-  pub effects-near : Within 102000000 (toZ w64 (ofZ w64 (e .raising))) × Within 102000000 (toZ w64 (ofZ w64 (e .lowering)))
+  pub effects-near : Within hoLineMost (toZ w64 (ofZ w64 (e .raising))) × Within hoLineMost (toZ w64 (ofZ w64 (e .lowering)))
   effects-near = (told (known w64 raising-near (lit< tt)) .1, told (known w64 lowering-near (lit< tt)) .1)
 
   module _ (q : Question) (across : Across) (r : Elements) (found : AllChosen q (across .spans) (across .lanes) (toZ w64 (ofZ w64 (e .raising))) (toZ w64 (ofZ w64 (e .lowering))) r) where
@@ -45,10 +46,10 @@ module _ (e : Effects) {b : ℕ} (fit : LineEffectsFit b e) (small : b ≤ 10200
         (subst (λ (y : ℤ). AllChosen q (across .spans) (across .lanes) (toZ w64 (ofZ w64 (e .raising))) y r) (known w64 lowering-near (lit< tt) .is) found)
 
     -- their effects, none worse than 0
-    pub values-fit : AcrossFits across → ValuesFit q (250000 * b) (across .lanes) (valueAt (r .values))
+    pub values-fit : AcrossFits across → ValuesFit q (ordinateMost * b) (across .lanes) (valueAt (r .values))
     values-fit fits = record {
       some = λ i h. subst (NoBetter q _) (sym (right .values i h)) (best-some q (getD (across .spans) i noSpan) e (fits .spans i h) fit);
-      near = λ i h. subst (Within (250000 * b)) (sym (right .values i h)) (best-near q (getD (across .spans) i noSpan) e (fits .spans i h) fit);
+      near = λ i h. subst (Within (ordinateMost * b)) (sym (right .values i h)) (best-near q (getD (across .spans) i noSpan) e (fits .spans i h) fit);
     }
 
     -- in a job whose line effects these are

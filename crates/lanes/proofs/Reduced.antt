@@ -5,9 +5,10 @@ use lib.IntN.{ℤ, _*ℤ_}
 use Rattle.exact.specs.Bounds.{Within}
 use Rattle.exact.proofs.Bounds.{within-le, within-pos, within-mul}
 use Rattle.model.specs.Lanes.{reduction}
+use Rattle.model.specs.Bounds.{hnLaneMost, setMost}
 
 -- r times m is at most 60
-pub reduced-near : (m : ℕ) (z : ℤ) → m ≤ 5 → Within (21500000000000 * m) z → Within 1290000000000000 (reduction m *ℤ z)
+pub reduced-near : (m : ℕ) (z : ℤ) → m ≤ 5 → Within (hnLaneMost * m) z → Within setMost (reduction m *ℤ z)
 unfolding reduction
 reduced-near zero z h w = within-le (within-mul (within-pos 20 (omega arith)) w) (omega arith)
 reduced-near (suc zero) z h w = within-le (within-mul (within-pos 20 (omega arith)) w) (omega arith)

@@ -17,6 +17,7 @@ use Rattle.model.specs.Job.{Live, noTraffic, normal, overload}
 use Rattle.model.specs.Lanes.{bit, reduction}
 use Rattle.model.specs.Traffic.{setSum, bestNormal, bestOverload}
 use Rattle.model.specs.Arrangements.{OverloadLanes}
+use Rattle.model.specs.Bounds.{sumMost}
 use Rattle.lanes.specs.declared.sets.Pick.{Pick}
 use Rattle.lanes.specs.declared.sets.Growing.{Growing}
 use Rattle.lanes.specs.declared.sets.Loading.{Loading}
@@ -77,7 +78,7 @@ pub record OverloadAt (q : Question) (n : ℕ) (hn : ℕ → ℤ) (ho : ℤ) (o 
   pub apart : bit (r .set) o ≡ false
   pub value : r .value ≡ pos 20 *ℤ ho +ℤ setSum reduction n hn (r .set)
   pub unbeaten : (s : ℕ) → s < 2 ^ n → bit s o ≡ false → NoBetter q (pos 20 *ℤ ho +ℤ setSum reduction n hn s) (r .value)
-  pub near : Within 1800000000000000 (r .value)
+  pub near : Within sumMost (r .value)
 
 -- a live kind's best sum
 abbrev pub bestFor : Question → Live → (n : ℕ) (hn ho : ℕ → ℤ) → ℤ
@@ -93,4 +94,4 @@ pub record LoadingRight (q : Question) (live : Live) (n : ℕ) (hn ho : ℕ → 
   pub apart : bit (r .set) (r .lane) ≡ false
   pub value : r .value ≡ pos 20 *ℤ sumTo n (λ i. if eqb i (r .lane) then ho i else pos 0) +ℤ setSum reduction n hn (r .set)
   pub best : r .value ≡ bestFor q live n hn ho
-  pub near : Within 1800000000000000 (r .value)
+  pub near : Within sumMost (r .value)

@@ -5,6 +5,7 @@ ghost use lib.ListN.{length, getD};
 ghost use Rattle.exact.specs.Bounds.{Within};
 ghost use Rattle.model.specs.Lanes.{laneCount};
 ghost use Rattle.model.specs.Decode.{carriageway};
+ghost use Rattle.model.specs.Bounds.{ordinateMost};
 ghost use Rattle.lanes.specs.Transverse.{TransverseFits, OrdinatesTo};
 ghost use Rattle.lanes.specs.Spans.{SpanRight, noSpan, AcrossRight};
 ghost use Rattle.lanes.specs.Candidates.{ordinateAt, betterCentre, BestBefore};
@@ -22,14 +23,14 @@ fn ordinate(across: &[u8], d: usize, centre: usize) -> i64
     requires { ⌜ 0 < d ⌝ }
     requires { ⌜ d ≤ 250 ⌝ }
     requires { ⌜ OrdinatesTo (now across) (centre / d + 1) ⌝ }
-    ensures { λ r. ⌜ (r ≡ ordinateAt (now (across .entry)) d centre) × Within 250000 r ⌝ }
+    ensures { λ r. ⌜ (r ≡ ordinateAt (now (across .entry)) d centre) × Within ordinateMost r ⌝ }
 {
     let m = centre / d;
     let j = centre % d;
     ((d - j) as i64) * words::word(across, m) + (j as i64) * words::word(across, m + 1)
 }
 
-// The centre, or the best so far.
+// The centre at a place if its ordinate beats the best so far, else that.
 fn consider(q: Question, across: &[u8], d: usize, best: Centre, at: usize) -> Centre
     requires { ⌜ 0 < d ⌝ }
     requires { ⌜ d ≤ 250 ⌝ }
@@ -110,7 +111,7 @@ pub struct Across {
     pub unit: usize,
 }
 
-// Of a carriageway, by its transverse section, its width and the spacing g.
+// What lies across a carriageway, by its transverse section, its width and the spacing g.
 pub fn across_of(section: &[u8], width: usize, g: usize) -> Across
     requires { ⌜ TransverseFits (now section) width g ⌝ }
     ensures { λ r. ⌜ AcrossRight (carriageway (now (section .entry)) width g) r ⌝ }

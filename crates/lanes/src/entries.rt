@@ -8,6 +8,7 @@ ghost use Prim.Native.Nat.{ℕ, _≤_, _<_};
 ghost use lib.ListN.{getD};
 ghost use Rattle.exact.specs.Bounds.{Within};
 ghost use Rattle.exact.specs.Questions.{other};
+ghost use Rattle.model.specs.Bounds.{hoLineMost};
 ghost use Rattle.lanes.specs.Spans.{noSpan, SpanFits};
 ghost use Rattle.lanes.specs.Entries.{bestOf, ChosenRight, AllChosen};
 
@@ -41,7 +42,7 @@ fn worst_of(q: Question, span: Span) -> Centre
 // The best element of a lane with this span, under these line effects.
 fn choose(q: Question, span: Span, raising: i64, lowering: i64) -> Chosen
     requires { ⌜ SpanFits span ⌝ }
-    requires { ⌜ Within 102000000 raising × Within 102000000 lowering ⌝ }
+    requires { ⌜ Within hoLineMost raising × Within hoLineMost lowering ⌝ }
     ensures { λ r. ⌜ ChosenRight q span raising lowering r ⌝ }
 {
     let r = best_of(q, span);
@@ -68,7 +69,7 @@ pub struct Elements {
     pub values: [i64; 5],
 }
 
-// Those of n lanes under these line effects.
+// The best elements of n lanes under these line effects.
 pub(crate) fn choose_all(
     q: Question,
     spans: [Span; 5],
@@ -78,7 +79,7 @@ pub(crate) fn choose_all(
 ) -> Elements
     requires { ⌜ (0 < n) × (n ≤ 5) ⌝ }
     requires { ⌜ ((i : ℕ) → i < n → SpanFits (getD spans i noSpan)) ⌝ }
-    requires { ⌜ Within 102000000 raising × Within 102000000 lowering ⌝ }
+    requires { ⌜ Within hoLineMost raising × Within hoLineMost lowering ⌝ }
     ensures { λ r. ⌜ AllChosen q spans n raising lowering r ⌝ }
 {
     let none = Chosen {

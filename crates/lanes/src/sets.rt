@@ -10,6 +10,7 @@ ghost use Rattle.exact.specs.Choice.{if_then_else_};
 ghost use Rattle.exact.specs.Questions.{beats as beatsFor};
 ghost use Rattle.model.specs.Job.{normal, overload};
 ghost use Rattle.model.specs.Lanes.{bit, reduction as reductionOf};
+ghost use Rattle.model.specs.Bounds.{hnLaneMost, hoLaneMost, hnLanesMost};
 ghost use Rattle.lanes.specs.Sets.{valueAt, isFree, ValuesFit, BestFree, added, Grown, Reaches, BestBeside, OverloadAt, LoadingRight};
 
 // Lane i's bit.
@@ -72,7 +73,7 @@ struct Pick {
     at: usize,
 }
 
-// A lane that is left and no worse than the best so far, or that.
+// A lane that is left and no worse than the best so far, else the best so far.
 fn consider(q: Question, best: Pick, left: bool, value: i64, at: usize) -> Pick
     ensures { λ r. ⌜ r ≡ (if left then (if beatsFor q (best .value) value then best else record { value = value; at = at }) else best) ⌝ }
 {
@@ -87,7 +88,7 @@ fn consider(q: Question, best: Pick, left: bool, value: i64, at: usize) -> Pick
 
 // The best of n lanes that are left; lane n is none.
 fn next(q: Question, values: [i64; 5], n: usize, o: usize, set: u32) -> Pick
-    requires { ⌜ (n ≤ 5) × ValuesFit q 21500000000000 n (valueAt values) ⌝ }
+    requires { ⌜ (n ≤ 5) × ValuesFit q hnLaneMost n (valueAt values) ⌝ }
     ensures { λ r. ⌜ BestFree q n (valueAt values) set o n r ⌝ }
 {
     let mut best = Pick { value: 0, at: n };
@@ -107,7 +108,7 @@ pub struct Growing {
 
 // A lane with its value, which the set lacks, added.
 fn add(q: Question, s: Growing, lane: usize, value: i64) -> Growing
-    requires { ⌜ (lane < 5) × (s .set < 32) × Within 107500000000000 (s .sum) × Within 21500000000000 value ⌝ }
+    requires { ⌜ (lane < 5) × (s .set < 32) × Within hnLanesMost (s .sum) × Within hnLaneMost value ⌝ }
     ensures { λ r. ⌜ r ≡ added q s lane value ⌝ }
 {
     let set = with(lane, s.set);
@@ -131,7 +132,7 @@ fn add(q: Question, s: Growing, lane: usize, value: i64) -> Growing
 
 // The best lane that is left, added where there is one.
 fn grow(q: Question, values: [i64; 5], n: usize, o: usize, s: Growing) -> Growing
-    requires { ⌜ (n ≤ 5) × ValuesFit q 21500000000000 n (valueAt values) × Grown q n (valueAt values) o s ⌝ }
+    requires { ⌜ (n ≤ 5) × ValuesFit q hnLaneMost n (valueAt values) × Grown q n (valueAt values) o s ⌝ }
     ensures { λ r. ⌜ Grown q n (valueAt values) o r × ((m : ℕ) → Reaches n o m (s .set) → Reaches n o (m + 1) (r .set)) ⌝ }
 {
     let lane = next(q, values, n, o, s.set);
@@ -143,7 +144,7 @@ fn grow(q: Question, values: [i64; 5], n: usize, o: usize, s: Growing) -> Growin
 
 // The best set of n lanes without lane o.
 fn beside(q: Question, values: [i64; 5], n: usize, o: usize) -> Growing
-    requires { ⌜ (n ≤ 5) × ValuesFit q 21500000000000 n (valueAt values) ⌝ }
+    requires { ⌜ (n ≤ 5) × ValuesFit q hnLaneMost n (valueAt values) ⌝ }
     ensures { λ r. ⌜ BestBeside q n (valueAt values) o n (r .best) (r .chosen) ⌝ }
 {
     let mut s = Growing {
@@ -167,7 +168,7 @@ pub struct Loading {
 
 // The best set of n lanes.
 pub(crate) fn best_normal(q: Question, hn: [i64; 5], n: usize) -> Loading
-    requires { ⌜ (n ≤ 5) × ValuesFit q 21500000000000 n (valueAt hn) ⌝ }
+    requires { ⌜ (n ≤ 5) × ValuesFit q hnLaneMost n (valueAt hn) ⌝ }
     ensures { λ r. ⌜ ((ho : ℕ → ℤ) → LoadingRight q normal n (valueAt hn) ho r) ⌝ }
 {
     let s = beside(q, hn, n, 5);
@@ -180,7 +181,7 @@ pub(crate) fn best_normal(q: Question, hn: [i64; 5], n: usize) -> Loading
 
 // HO of this value in a lane, at the r of one lane, and the best set beside it.
 fn overload_at(q: Question, hn: [i64; 5], n: usize, ho: i64, lane: usize) -> Loading
-    requires { ⌜ (n ≤ 5) × ValuesFit q 21500000000000 n (valueAt hn) × Within 25500000000000 ho ⌝ }
+    requires { ⌜ (n ≤ 5) × ValuesFit q hnLaneMost n (valueAt hn) × Within hoLaneMost ho ⌝ }
     ensures { λ r. ⌜ OverloadAt q n (valueAt hn) ho lane r ⌝ }
 {
     let s = beside(q, hn, n, lane);
@@ -192,7 +193,7 @@ fn overload_at(q: Question, hn: [i64; 5], n: usize, ho: i64, lane: usize) -> Loa
     }
 }
 
-// The better of two, the first at a tie.
+// The better of two loadings, the first at a tie.
 fn better(q: Question, a: Loading, b: Loading) -> Loading
     ensures { λ r. ⌜ r ≡ (if beatsFor q (b .value) (a .value) then b else a) ⌝ }
 {
@@ -204,7 +205,7 @@ fn better(q: Question, a: Loading, b: Loading) -> Loading
 
 // The best HO lane and set beside it.
 pub(crate) fn best_overload(q: Question, hn: [i64; 5], ho: [i64; 5], n: usize) -> Loading
-    requires { ⌜ (0 < n) × (n ≤ 5) × ValuesFit q 21500000000000 n (valueAt hn) × ((i : ℕ) → i < n → Within 25500000000000 (valueAt ho i)) ⌝ }
+    requires { ⌜ (0 < n) × (n ≤ 5) × ValuesFit q hnLaneMost n (valueAt hn) × ((i : ℕ) → i < n → Within hoLaneMost (valueAt ho i)) ⌝ }
     ensures { λ r. ⌜ LoadingRight q overload n (valueAt hn) (valueAt ho) r ⌝ }
 {
     let mut best = overload_at(q, hn, n, ho[0], 0);

@@ -15,6 +15,7 @@ ghost use Rattle.exact.specs.Bounds.{Within};
 ghost use Rattle.model.specs.Job.{Job, Live, normal, overload};
 ghost use Rattle.model.specs.Line.{HN, HO};
 ghost use Rattle.model.specs.Traffic.{effectOf};
+ghost use Rattle.model.specs.Bounds.{hnLineMost, hoLineMost, sumMost, trafficMost};
 ghost use Rattle.lanes.specs.Spans.{AcrossFits, Spanned};
 ghost use Rattle.lanes.specs.Loadings.{LineEffectsFit, effectsOf, laneOf, LanesPlaced, LoadingOf, TrafficPlaced};
 
@@ -70,8 +71,8 @@ fn placed(set: u32, ho: usize, n: usize, hn: [Chosen; 5], over: [Chosen; 5]) -> 
 
 // 3 X / 800000 rounded, of a sum times d before the dynamic factor.
 fn value(q: Question, dynamic: usize, sum: i64, d: usize) -> i64
-    requires { ⌜ (1000 ≤ dynamic) × (dynamic ≤ 1300) × (10 ≤ d) × (d ≤ 250) × Within 1800000000000000 sum ⌝ }
-    ensures { λ r. ⌜ (r ≡ effectOf q dynamic sum d) × Within 1000000000000 r ⌝ }
+    requires { ⌜ (1000 ≤ dynamic) × (dynamic ≤ 1300) × (10 ≤ d) × (d ≤ 250) × Within sumMost sum ⌝ }
+    ensures { λ r. ⌜ (r ≡ effectOf q dynamic sum d) × Within trafficMost r ⌝ }
 {
     let x = 3 * ((dynamic as i64) * sum);
     let unit = 800000 * (d as u32);
@@ -87,8 +88,8 @@ fn found(
     hn: [Chosen; 5],
     ho: [Chosen; 5],
 ) -> Extreme
-    requires { ⌜ AcrossFits across × (1000 ≤ dynamic) × (dynamic ≤ 1300) × (best .set < 32) × Within 1800000000000000 (best .value) ⌝ }
-    ensures { λ r. ⌜ Within 1000000000000 (r .value) × ((job : Job) (live : Live) → LoadingOf q job live across dynamic best hn ho → TrafficPlaced q job live r) ⌝ }
+    requires { ⌜ AcrossFits across × (1000 ≤ dynamic) × (dynamic ≤ 1300) × (best .set < 32) × Within sumMost (best .value) ⌝ }
+    ensures { λ r. ⌜ Within trafficMost (r .value) × ((job : Job) (live : Live) → LoadingOf q job live across dynamic best hn ho → TrafficPlaced q job live r) ⌝ }
 {
     let lanes = placed(best.set, best.lane, across.lanes, hn, ho);
     let set = sets::loaded(best.set, best.lane);
@@ -99,8 +100,8 @@ fn found(
 
 // Normal: the best set of lanes under HN.
 pub fn normal(q: Question, across: Across, dynamic: usize, hn: Effects) -> Extreme
-    requires { ⌜ AcrossFits across × (1000 ≤ dynamic) × (dynamic ≤ 1300) × LineEffectsFit 86000000 hn ⌝ }
-    ensures { λ r. ⌜ Within 1000000000000 (r .value) × ((job : Job) → Spanned job across → dynamic ≡ job .dynamic q → hn ≡ effectsOf job HN → TrafficPlaced q job normal r) ⌝ }
+    requires { ⌜ AcrossFits across × (1000 ≤ dynamic) × (dynamic ≤ 1300) × LineEffectsFit hnLineMost hn ⌝ }
+    ensures { λ r. ⌜ Within trafficMost (r .value) × ((job : Job) → Spanned job across → dynamic ≡ job .dynamic q → hn ≡ effectsOf job HN → TrafficPlaced q job normal r) ⌝ }
 {
     let n = across.lanes;
     let spans = across.spans;
@@ -113,8 +114,8 @@ pub fn normal(q: Question, across: Across, dynamic: usize, hn: Effects) -> Extre
 
 // Overload: the best lane under HO and set of others under HN.
 pub fn overload(q: Question, across: Across, dynamic: usize, hn: Effects, ho: Effects) -> Extreme
-    requires { ⌜ AcrossFits across × (1000 ≤ dynamic) × (dynamic ≤ 1300) × LineEffectsFit 86000000 hn × LineEffectsFit 102000000 ho ⌝ }
-    ensures { λ r. ⌜ Within 1000000000000 (r .value) × ((job : Job) → Spanned job across → dynamic ≡ job .dynamic q → hn ≡ effectsOf job HN → ho ≡ effectsOf job HO → TrafficPlaced q job overload r) ⌝ }
+    requires { ⌜ AcrossFits across × (1000 ≤ dynamic) × (dynamic ≤ 1300) × LineEffectsFit hnLineMost hn × LineEffectsFit hoLineMost ho ⌝ }
+    ensures { λ r. ⌜ Within trafficMost (r .value) × ((job : Job) → Spanned job across → dynamic ≡ job .dynamic q → hn ≡ effectsOf job HN → ho ≡ effectsOf job HO → TrafficPlaced q job overload r) ⌝ }
 {
     let n = across.lanes;
     let spans = across.spans;

@@ -9,6 +9,7 @@ pub mod Decode
 pub mod Refusals
 pub mod Line
 pub mod Lanes
+pub mod Bounds
 pub mod Traffic
 pub mod Rows
 pub mod Arrangements

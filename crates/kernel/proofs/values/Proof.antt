@@ -1,17 +1,19 @@
 use mathlib.Core.Path.{_≡_, sym, subst}
 use mathlib.Core.List.{List}
 use Prim.Native.Nat.{ℕ, _≤_}
+use lib.Dec.{lit≤}
 use Rattle.exact.specs.declared.Question.{Question}
 use Rattle.exact.specs.declared.Question.the-variants.{Greatest, Least}
 use Rattle.model.specs.Job.{Job}
 use Rattle.model.specs.Decode.{decode}
 use Rattle.model.specs.Line.{HN, HO}
+use Rattle.model.specs.Bounds.{hnLineMost, hoLineMost}
 use Rattle.lanes.specs.Transverse.{TransverseFits}
 use Rattle.lanes.specs.Spans.{Spanned}
 use Rattle.lanes.specs.Loadings.{LineEffectsFit, effectsOf}
 use Rattle.lanes.specs.declared.traffic.Effects.{Effects}
 use Rattle.kernel.proofs.Fits.{sized, across-fits, dynamic-limits, dynamic}
-use Rattle.kernel.proofs.Loads.{handed, effects-are, effects-fit, spanned, factor-is}
+use Rattle.kernel.proofs.Loads.{handed, effects-are, effects-fit, wider, spanned, factor-is}
 use borrow.Author.Needs.{needs}
 use Rattle.kernel.proofs.values.Statement.{statement}
 use Rattle.kernel.proofs.values.Tie as tie
@@ -58,13 +60,16 @@ module _ (c : tie.After-across-of) where
   hn-are : hn ≡ effectsOf job HN
   hn-are = effects-are job HN (st .pre .1 .0) (st .pre .1 .1) (formed .before .before .before .effect .ensures) (formed .before .before .effect2 .ensures)
 
-  hn-fit : LineEffectsFit 86000000 hn
+  hn-fit : LineEffectsFit hnLineMost hn
   hn-fit = effects-fit job HN (st .pre .1 .0) (st .pre .1 .1) (formed .before .before .before .effect .ensures) (formed .before .before .effect2 .ensures)
+
+  hn-wide : LineEffectsFit hoLineMost hn
+  hn-wide = wider (lit≤ tt) hn-fit
 
   ho-are : ho ≡ effectsOf job HO
   ho-are = effects-are job HO (st .pre .1 .0) (st .pre .1 .1) (formed .before .effect3 .ensures) (formed .effect4 .ensures)
 
-  ho-fit : LineEffectsFit 102000000 ho
+  ho-fit : LineEffectsFit hoLineMost ho
   ho-fit = effects-fit job HO (st .pre .1 .0) (st .pre .1 .1) (formed .before .effect3 .ensures) (formed .effect4 .ensures)
 
   over : Spanned job (c .across-of .result)
@@ -83,10 +88,10 @@ normal-requires-2 : tie.Need-normal-requires-2
 normal-requires-2 c κs = normal-requires (c .before) κs
 
 overload-requires : tie.Need-overload-requires
-overload-requires c κs = let d = c .before .before in (d .across-of .ensures .fits, limits d .0, limits d .1, hn-fit d, ho-fit d)
+overload-requires c κs = let d = c .before .before in (d .across-of .ensures .fits, limits d .0, limits d .1, hn-fit d, search (hn-wide d, ho-fit d))
 
 overload-requires-2 : tie.Need-overload-requires-2
-overload-requires-2 c κs = overload-requires (c .before) κs
+overload-requires-2 c κs = let d = c .before .before .before in (d .across-of .ensures .fits, limits d .0, limits d .1, hn-fit d, search (hn-wide d, ho-fit d))
 
 returns : tie.Need-returns
 returns c =

@@ -8,6 +8,7 @@ use Rattle.exact.specs.Questions.{beats, other}
 use Rattle.exact.specs.declared.Question.{Question}
 use Rattle.exact.proofs.Extremes.{beats-yes, beats-no}
 use Rattle.exact.proofs.Held.{Kept, arg, known, retold, beats-held, times, times! }
+use Rattle.model.specs.Bounds.{ordinateMost, hoLineMost, hoLaneMost}
 use Rattle.lanes.specs.declared.centres.Centre.{Centre}
 use Rattle.lanes.specs.declared.centres.Span.{Span}
 use Rattle.lanes.specs.Entries.{bestOf}
@@ -17,9 +18,9 @@ use Rattle.lanes.proofs.entries.choose.Statement.{statement}
 use Rattle.lanes.proofs.entries.choose.Tie as tie
 
 -- an ordinate as a call returned it
-abbrev ordinate : (x : Centre) (q : Question) (span : Span) → x ≡ bestOf q span → SpanFits span → Kept w64 250000 (bestOf q span .ordinate)
+abbrev ordinate : (x : Centre) (q : Question) (span : Span) → x ≡ bestOf q span → SpanFits span → Kept w64 ordinateMost (bestOf q span .ordinate)
 ordinate x q span e h =
-    (_, retold (known w64 {z = x .ordinate} (subst (λ (y : Centre). Within 250000 (y .ordinate)) (sym e) (near-of q span h)) (lit< tt)) (ap (λ (y : Centre). y .ordinate) e))
+    (_, retold (known w64 {z = x .ordinate} (subst (λ (y : Centre). Within ordinateMost (y .ordinate)) (sym e) (near-of q span h)) (lit< tt)) (ap (λ (y : Centre). y .ordinate) e))
 
 best-of-requires : tie.Need-best-of-requires
 best-of-requires c κs = search needs
@@ -37,22 +38,22 @@ module _ (c : tie.After-worst-of) where
   abbrev span : Span
   span = s .args .span
 
-  abbrev best : Kept w64 250000 (bestOf q span .ordinate)
+  abbrev best : Kept w64 ordinateMost (bestOf q span .ordinate)
   best = ordinate (c .before .best-of .result) q span (c .before .best-of .ensures) (s .pre .0)
 
-  abbrev worst : Kept w64 250000 (bestOf (other q) span .ordinate)
+  abbrev worst : Kept w64 ordinateMost (bestOf (other q) span .ordinate)
   worst = ordinate (c .worst-of .result) (other q) span (c .worst-of .ensures) (s .pre .0)
 
-  abbrev raising : Kept w64 102000000 (s .args .raising)
+  abbrev raising : Kept w64 hoLineMost (s .args .raising)
   raising = (_, arg (s .fits .raising) (s .pre .1 .0))
 
-  abbrev lowering : Kept w64 102000000 (s .args .lowering)
+  abbrev lowering : Kept w64 hoLineMost (s .args .lowering)
   lowering = (_, arg (s .fits .lowering) (s .pre .1 .1))
 
-  abbrev up : Kept w64 25500000000000 (bestOf q span .ordinate *ℤ s .args .raising)
+  abbrev up : Kept w64 hoLaneMost (bestOf q span .ordinate *ℤ s .args .raising)
   up = (_, times (best .1) (raising .1) (lit< tt))
 
-  abbrev down : Kept w64 25500000000000 (bestOf (other q) span .ordinate *ℤ s .args .lowering)
+  abbrev down : Kept w64 hoLaneMost (bestOf (other q) span .ordinate *ℤ s .args .lowering)
   down = (_, times (worst .1) (lowering .1) (lit< tt))
 
 mul-up : tie.Need-mul-up

@@ -5,6 +5,7 @@ use mir.Syntax.{w64}
 use borrow.Author.Needs.{needs}
 use Rattle.exact.specs.Bounds.{Within}
 use Rattle.exact.proofs.Held.{known}
+use Rattle.model.specs.Bounds.{setMost}
 use Rattle.lanes.specs.Sets.{valueAt, BestBeside}
 use Rattle.lanes.proofs.Best.{set-near, normal-right}
 use Rattle.lanes.proofs.sets.best_normal.Statement.{statement}
@@ -19,7 +20,7 @@ returns c =
     let a = s .args in
     let v = valueAt (a .hn) in
     let b = c .before .beside .ensures in
-    let near : Within 1290000000000000 (c .before .beside .result .best) = subst (Within 1290000000000000) (sym (b .value)) (set-near (a .n) v (c .before .beside .result .chosen) (s .pre .0) (s .pre .1 .near) (b .small)) in
+    let near : Within setMost (c .before .beside .result .best) = subst (Within setMost) (sym (b .value)) (set-near (a .n) v (c .before .beside .result .chosen) (s .pre .0) (s .pre .1 .near) (b .small)) in
     normal-right (a .q) (a .n) v _ (c .before .beside .result .chosen) (s .pre .0) (s .pre .1 .near) (subst (λ (x : ℤ). BestBeside (a .q) (a .n) v 5 (a .n) x (c .before .beside .result .chosen)) (sym (known w64 near (lit< tt) .is)) b)
 
 pub best-normal-spec : {M : Type 1} → statement M

@@ -13,6 +13,7 @@ use Rattle.exact.proofs.Bounds.{within-le}
 use Rattle.exact.proofs.Held.{known, told}
 use Rattle.exact.proofs.Weights.{count-le, sum-near}
 use Rattle.model.specs.Lanes.{bit}
+use Rattle.model.specs.Bounds.{hnLaneMost, hnLanesMost}
 use Rattle.lanes.specs.Sets.{valueAt, none, one, added, Grown, Reaches}
 use Rattle.lanes.specs.declared.sets.Growing.{Growing}
 use Rattle.lanes.proofs.Growth.{FreeLane, free-lane, grown-more, reaches-more}
@@ -46,8 +47,8 @@ module _ (c : tie.Else1) where
   lane : FreeLane (s .args .q) (s .args .n) v (s .args .s .set) (s .args .o) (c .before .before .next .result)
   lane = free-lane (c .before .before .next .ensures) (c .if1 .left)
 
-  value-near : Within 21500000000000 (c .before .before .next .result .value)
-  value-near = subst (Within 21500000000000) (sym (lane .is)) (s .pre .1 .near l (lane .below))
+  value-near : Within hnLaneMost (c .before .before .next .result .value)
+  value-near = subst (Within hnLaneMost) (sym (lane .is)) (s .pre .1 .near l (lane .below))
 
 add-requires : tie.Need-add-requires
 add-requires c κs =
@@ -58,7 +59,7 @@ add-requires c κs =
     let below = lane e .below in (
       omega arith,
       lt-of-lt-of-le (g .small) (pow-mono {i = st .args .n} {j = 5} few),
-      subst (Within 107500000000000) (sym (g .sum)) (within-le (sum-near 21500000000000 (st .args .n) (bit (st .args .s .set)) (v e) (st .pre .1 .near)) (let m = count-le (st .args .n) (bit (st .args .s .set)) in omega arith)),
+      subst (Within hnLanesMost) (sym (g .sum)) (within-le (sum-near hnLaneMost (st .args .n) (bit (st .args .s .set)) (v e) (st .pre .1 .near)) (let m = count-le (st .args .n) (bit (st .args .s .set)) in omega arith)),
       told (known w64 (value-near e) (lit< tt)) .1,
     )
 

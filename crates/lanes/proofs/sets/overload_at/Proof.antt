@@ -12,6 +12,7 @@ use Rattle.exact.proofs.Held.{Kept, arg, known, got, told, plus, plus!, times, 
 use Rattle.exact.proofs.Weights.{count-le}
 use Rattle.model.specs.Lanes.{bit, reduction}
 use Rattle.model.specs.Traffic.{setSum}
+use Rattle.model.specs.Bounds.{hoLaneMost, setMost}
 use Rattle.lanes.specs.Sets.{valueAt}
 use Rattle.lanes.proofs.Best.{set-near}
 use Rattle.lanes.proofs.sets.overload_at.Statement.{statement}
@@ -30,13 +31,13 @@ module _ (c : tie.After-reduction) where
   abbrev best : ℤ
   best = c .before .beside .result .best
 
-  abbrev ho : Kept w64 25500000000000 (s .args .ho)
+  abbrev ho : Kept w64 hoLaneMost (s .args .ho)
   ho = (_, arg (s .fits .ho) (s .pre .2))
 
-  abbrev rest : Kept w64 1290000000000000 best
+  abbrev rest : Kept w64 setMost best
   rest = (
     _,
-    known w64 (subst (Within 1290000000000000) (sym (c .before .beside .ensures .value)) (set-near (s .args .n) (valueAt (s .args .hn)) (c .before .beside .result .chosen) (s .pre .0) (s .pre .1 .near) (c .before .beside .ensures .small))) (lit< tt),
+    known w64 (subst (Within setMost) (sym (c .before .beside .ensures .value)) (set-near (s .args .n) (valueAt (s .args .hn)) (c .before .beside .result .chosen) (s .pre .0) (s .pre .1 .near) (c .before .beside .ensures .small))) (lit< tt),
   )
 
 mul-value : tie.Need-mul-value

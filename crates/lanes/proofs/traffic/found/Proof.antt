@@ -6,6 +6,7 @@ use mir.Val.{toZ, ofZ}
 use Rattle.exact.specs.Bounds.{Within}
 use Rattle.exact.proofs.Held.{known, back, told}
 use Rattle.model.specs.Traffic.{effectOf}
+use Rattle.model.specs.Bounds.{trafficMost}
 use Rattle.lanes.proofs.Placements.{traffic-placed}
 use Rattle.lanes.proofs.traffic.found.Statement.{statement}
 use Rattle.lanes.proofs.traffic.found.Tie as tie
@@ -25,7 +26,7 @@ returns c =
     let a = s .args in
     let v : toZ w64 (ofZ w64 (c .value .result)) ≡ effectOf (a .q) (a .dynamic) (a .best .value) (a .across .unit) =
     back w64 (c .value .ok) (c .value .ensures .0 ∙ ap (λ (z : ℤ). effectOf (a .q) (a .dynamic) z (a .across .unit)) (known w64 (s .pre .4) (lit< tt) .is)) in (
-      subst (Within 1000000000000) (sym (back w64 (c .value .ok) refl)) (c .value .ensures .1),
+      subst (Within trafficMost) (sym (back w64 (c .value .ok) refl)) (c .value .ensures .1),
       λ job live f. traffic-placed (a .q) job live (a .across) (a .dynamic) (a .best) (a .hn) (a .ho) f (s .pre .0 .few) _ v (c .before .before .loaded .ensures) (c .before .before .before .placed .ensures),
     )
 

@@ -10,6 +10,7 @@ use Rattle.exact.proofs.Bounds.{within-le}
 use Rattle.exact.proofs.Held.{Kept, arg, nat, lit, back, times, times! }
 use Rattle.exact.proofs.Rounding.{quotient-near}
 use Rattle.model.specs.Traffic.{effectOf}
+use Rattle.model.specs.Bounds.{sumMost}
 use Rattle.lanes.proofs.traffic.value.Statement.{statement}
 use Rattle.lanes.proofs.traffic.value.Tie as tie
 
@@ -17,7 +18,7 @@ module _ (s : tie.Start) where
   abbrev dynamic : Kept w64 1300 (pos (s .args .dynamic))
   dynamic = (_, nat w64 1300 {n = s .args .dynamic} (omega arith) (omega arith))
 
-  abbrev sum : Kept w64 1800000000000000 (s .args .sum)
+  abbrev sum : Kept w64 sumMost (s .args .sum)
   sum = (_, arg (s .fits .sum) (s .pre .4))
 
   abbrev scaled : Kept w64 2340000000000000000 (pos (s .args .dynamic) *ℤ s .args .sum)
