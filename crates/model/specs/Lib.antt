@@ -6,6 +6,7 @@ pub mod Dynamic
 pub mod Decode
 pub mod Refusals
 pub mod Line
+pub mod Bounds
 pub mod Lanes
 pub mod Traffic
 pub mod Rows
