@@ -26,7 +26,7 @@ use Rattle.model.specs.Job.{Live, noTraffic, normal, overload}
 use Rattle.model.specs.Lanes.{bit, without, reduction}
 use Rattle.model.specs.Traffic.{setSum, bestNormal, bestOverload}
 use Rattle.model.proofs.Sets.{ones-count, without-bit}
-use Rattle.model.specs.Bounds.{hnLaneMost, setMost}
+use Rattle.model.specs.Magnitudes.{hnLaneMost, setMost}
 use Rattle.lanes.specs.Sets.{BestBeside, OverloadAt, bestFor, LoadingRight}
 use Rattle.lanes.specs.declared.sets.Loading.{Loading}
 use Rattle.lanes.proofs.Reduced.{reduced-near}

@@ -11,7 +11,7 @@ use Rattle.exact.specs.Questions.{beats, NoBetter}
 use Rattle.exact.specs.declared.Question.{Question}
 use Rattle.exact.proofs.Bridge.{by-test}
 use Rattle.exact.proofs.Extremes.{no-better-refl, no-better-trans, beats-yes, beats-no}
-use Rattle.model.specs.Bounds.{ordinateMost}
+use Rattle.model.specs.Magnitudes.{transverseMost}
 use Rattle.lanes.specs.Candidates.{ordinateAt, betterCentre, CentreStands, BestBefore}
 use Rattle.lanes.specs.declared.centres.Centre.{Centre}
 
@@ -22,7 +22,7 @@ record Tried (q : Question) (s : List ℕ) (d lo hi : ℕ) (c : Centre) (at : �
   added : NoBetter q (ordinateAt s d at) (r .ordinate)
 
 module _ (q : Question) (s : List ℕ) (d lo hi : ℕ) where
-  tried : (c : Centre) (at : ℕ) → CentreStands s d lo hi c → lo ≤ at → at ≤ hi → Within ordinateMost (ordinateAt s d at) → Tried q s d lo hi c at (betterCentre q s d c at)
+  tried : (c : Centre) (at : ℕ) → CentreStands s d lo hi c → lo ≤ at → at ≤ hi → Within transverseMost (ordinateAt s d at) → Tried q s d lo hi c at (betterCentre q s d c at)
   tried c at st l r n =
       let here : Centre = record { ordinate = ordinateAt s d at; at = at } in
       by-test (beats q (ordinateAt s d at) (c .ordinate)) (λ t. Tried q s d lo hi c at (if t then here else c))
@@ -30,7 +30,7 @@ module _ (q : Question) (s : List ℕ) (d lo hi : ℕ) where
       (λ e. record { stands = st; kept = no-better-refl q (c .ordinate); added = beats-no q (ordinateAt s d at) (c .ordinate) e .0 })
 
   -- lo and hi: a transverse ordinate from lo on and not past it is at lo
-  pub limits-tried : 0 < d → lo ≤ hi → Within ordinateMost (ordinateAt s d lo) → Within ordinateMost (ordinateAt s d hi) →
+  pub limits-tried : 0 < d → lo ≤ hi → Within transverseMost (ordinateAt s d lo) → Within transverseMost (ordinateAt s d hi) →
       BestBefore q s d lo hi (lo / d + 1) (betterCentre q s d (record { ordinate = ordinateAt s d lo; at = lo }) hi)
   limits-tried p l n n′ =
       let first : Centre = record { ordinate = ordinateAt s d lo; at = lo } in
@@ -45,7 +45,7 @@ module _ (q : Question) (s : List ℕ) (d lo hi : ℕ) where
       }
 
   -- the next transverse ordinate
-  pub next-tried : (m : ℕ) (c : Centre) → lo ≤ m * d → m * d ≤ hi → Within ordinateMost (ordinateAt s d (m * d)) → BestBefore q s d lo hi m c → BestBefore q s d lo hi (m + 1) (betterCentre q s d c (m * d))
+  pub next-tried : (m : ℕ) (c : Centre) → lo ≤ m * d → m * d ≤ hi → Within transverseMost (ordinateAt s d (m * d)) → BestBefore q s d lo hi m c → BestBefore q s d lo hi (m + 1) (betterCentre q s d c (m * d))
   next-tried m c l r n b =
       let t = tried c (m * d) (b .stands) l r n in
       record {

@@ -17,7 +17,7 @@ use Rattle.model.specs.declared.Sense.{Sense}
 use Rattle.model.specs.declared.Sense.the-variants.{Raising, Lowering}
 use Rattle.model.proofs.Centre.{factor-down, bestInLane-split}
 use Rattle.model.proofs.Signs.{between-products}
-use Rattle.model.specs.Bounds.{ordinateMost}
+use Rattle.model.specs.Magnitudes.{transverseMost}
 use Rattle.lanes.specs.Spans.{CentreRight, SpanRight, SpanFits}
 use Rattle.lanes.specs.Entries.{bestOf, centreFor, effectFor, bestEffect, ChosenRight}
 use Rattle.lanes.specs.Loadings.{LineEffectsFit, effectsOf, ElementRight}
@@ -25,7 +25,7 @@ use Rattle.lanes.specs.declared.centres.Span.{Span}
 use Rattle.lanes.specs.declared.entries.Chosen.{Chosen}
 use Rattle.lanes.specs.declared.traffic.Effects.{Effects}
 
-pub near-of : (q : Question) (span : Span) → SpanFits span → Within ordinateMost (bestOf q span .ordinate)
+pub near-of : (q : Question) (span : Span) → SpanFits span → Within transverseMost (bestOf q span .ordinate)
 near-of Greatest span h = h .greatest
 near-of Least span h = h .least
 
@@ -34,8 +34,8 @@ order-of Greatest span h = h .order
 order-of Least span h = h .order
 
 module _ (q : Question) (span : Span) (e : Effects) {b : ℕ} (fits : SpanFits span) (fit : LineEffectsFit b e) where
-  pub best-near : Within (ordinateMost * b) (bestEffect q span (e .raising) (e .lowering))
-  best-near = better-ind q (Within (ordinateMost * b)) _ _ (within-mul (near-of q span fits) (fit .raising)) (within-mul (near-of (other q) span fits) (fit .lowering))
+  pub best-near : Within (transverseMost * b) (bestEffect q span (e .raising) (e .lowering))
+  best-near = better-ind q (Within (transverseMost * b)) _ _ (within-mul (near-of q span fits) (fit .raising)) (within-mul (near-of (other q) span fits) (fit .lowering))
 
   -- at the one ordinate 0 lies between both elements, and the other ordinate suits lowering better
   pub best-some : NoBetter q (pos 0) (bestEffect q span (e .raising) (e .lowering))

@@ -15,7 +15,7 @@ use Rattle.exact.proofs.Held.{known, told}
 use Rattle.model.specs.Job.{Job, Live}
 use Rattle.model.specs.Line.{Kind, HN, HO}
 use Rattle.model.specs.Traffic.{laneEffect}
-use Rattle.model.specs.Bounds.{ordinateMost, hoLineMost}
+use Rattle.model.specs.Magnitudes.{transverseMost, hoLineMost}
 use Rattle.lanes.specs.Spans.{AcrossFits, Spanned, noSpan}
 use Rattle.lanes.specs.Entries.{noElement, AllChosen}
 use Rattle.lanes.specs.Sets.{valueAt, ValuesFit, LoadingRight}
@@ -46,10 +46,10 @@ module _ (e : Effects) {b : ℕ} (fit : LineEffectsFit b e) (small : b ≤ hoLin
         (subst (λ (y : ℤ). AllChosen q (across .spans) (across .lanes) (toZ w64 (ofZ w64 (e .raising))) y r) (known w64 lowering-near (lit< tt) .is) found)
 
     -- their effects, none worse than 0
-    pub values-fit : AcrossFits across → ValuesFit q (ordinateMost * b) (across .lanes) (valueAt (r .values))
+    pub values-fit : AcrossFits across → ValuesFit q (transverseMost * b) (across .lanes) (valueAt (r .values))
     values-fit fits = record {
       some = λ i h. subst (NoBetter q _) (sym (right .values i h)) (best-some q (getD (across .spans) i noSpan) e (fits .spans i h) fit);
-      near = λ i h. subst (Within (ordinateMost * b)) (sym (right .values i h)) (best-near q (getD (across .spans) i noSpan) e (fits .spans i h) fit);
+      near = λ i h. subst (Within (transverseMost * b)) (sym (right .values i h)) (best-near q (getD (across .spans) i noSpan) e (fits .spans i h) fit);
     }
 
     -- in a job whose line effects these are

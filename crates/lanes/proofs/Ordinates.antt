@@ -10,7 +10,7 @@ use Rattle.exact.specs.Bounds.{Within}
 use Rattle.exact.proofs.Bounds.{within-le, within-pos, within-add, within-mul}
 use Rattle.exact.proofs.Bridge.{subbed, ℕ→≡}
 use Rattle.model.specs.Words.{wordAt}
-use Rattle.model.specs.Bounds.{ordinateMost}
+use Rattle.model.specs.Magnitudes.{transverseMost}
 use Rattle.lanes.specs.Transverse.{OrdinatesTo}
 use Rattle.lanes.specs.Candidates.{ordinateAt}
 
@@ -23,10 +23,10 @@ ordinate-weights s d centre p =
     (ℕ→≡ (pos (d - centre % d)) (pos d -ℤ pos (centre % d)) (omega (arith, subbed (pos d) (pos (centre % d))))) (add-one (centre / d))
 
 -- a weighted mean of two ordinates of at most 1000, times d
-pub ordinate-near : (s : List ℕ) (d centre : ℕ) → 0 < d → d ≤ 250 → OrdinatesTo s (centre / d + 1) → Within ordinateMost (ordinateAt s d centre)
+pub ordinate-near : (s : List ℕ) (d centre : ℕ) → 0 < d → d ≤ 250 → OrdinatesTo s (centre / d + 1) → Within transverseMost (ordinateAt s d centre)
 ordinate-near s d centre p l o =
     let h : centre % d < d = mod-lt centre p in
-    subst (Within ordinateMost) (ordinate-weights s d centre p)
+    subst (Within transverseMost) (ordinate-weights s d centre p)
     (within-le
     (within-add (within-mul (within-pos (d - centre % d) (le-refl _)) (o .near (centre / d) (omega arith))) (within-mul (within-pos (centre % d) (le-refl _)) (o .near (centre / d + 1) (omega arith))))
     (omega arith))

@@ -8,7 +8,7 @@ use Rattle.exact.specs.Choice.{if_then_else_}
 use Rattle.exact.specs.Questions.{beats, NoBetter}
 use Rattle.exact.specs.declared.Question.{Question}
 use Rattle.model.specs.Words.{wordAt}
-use Rattle.model.specs.Bounds.{ordinateMost}
+use Rattle.model.specs.Magnitudes.{transverseMost}
 use Rattle.lanes.specs.declared.centres.Centre.{Centre}
 
 -- the transverse ordinate of a section at a centre, the ordinates being d apart: thousandths times d
@@ -24,7 +24,7 @@ pub record CentreStands (s : List ℕ) (d lo hi : ℕ) (c : Centre) : Type 0 whe
   pub from : lo ≤ c .at
   pub to : c .at ≤ hi
   pub here : ordinateAt s d (c .at) ≡ c .ordinate
-  pub near : Within ordinateMost (c .ordinate)
+  pub near : Within transverseMost (c .ordinate)
 
 -- no better one stands at lo, at hi, or at a transverse ordinate between, numbered below m
 pub record BestBefore (q : Question) (s : List ℕ) (d lo hi m : ℕ) (c : Centre) : Type 0 where

@@ -17,7 +17,7 @@ use Rattle.model.specs.Job.{Live, noTraffic, normal, overload}
 use Rattle.model.specs.Lanes.{bit, reduction}
 use Rattle.model.specs.Traffic.{setSum, bestNormal, bestOverload}
 use Rattle.model.specs.Arrangements.{OverloadLanes}
-use Rattle.model.specs.Bounds.{sumMost}
+use Rattle.model.specs.Magnitudes.{sumMost}
 use Rattle.lanes.specs.declared.sets.Pick.{Pick}
 use Rattle.lanes.specs.declared.sets.Growing.{Growing}
 use Rattle.lanes.specs.declared.sets.Loading.{Loading}

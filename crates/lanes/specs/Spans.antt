@@ -9,7 +9,7 @@ use Rattle.exact.specs.declared.Question.{Question}
 use Rattle.exact.specs.declared.Question.the-variants.{Greatest, Least}
 use Rattle.model.specs.Job.{Carriageway, Job}
 use Rattle.model.specs.Lanes.{lanesOf, lowest, highest, transverseAt, bestOrdinate, lanes, unit, sumUnit, deckOf}
-use Rattle.model.specs.Bounds.{ordinateMost}
+use Rattle.model.specs.Magnitudes.{transverseMost}
 use Rattle.lanes.specs.declared.centres.Centre.{Centre}
 use Rattle.lanes.specs.declared.centres.Span.{Span}
 use Rattle.lanes.specs.declared.centres.Across.{Across}
@@ -20,7 +20,7 @@ pub record CentreRight (q : Question) (deck : Carriageway) (i : ℕ) (c : Centre
   pub to : c .at ≤ highest deck i
   pub here : transverseAt deck (lanesOf deck) (c .at) ≡ c .ordinate
   pub best : c .ordinate ≡ bestOrdinate q deck i
-  pub near : Within ordinateMost (c .ordinate)
+  pub near : Within transverseMost (c .ordinate)
 
 -- lane i's best centre for either question
 pub record SpanRight (deck : Carriageway) (i : ℕ) (s : Span) : Type 0 where
@@ -37,8 +37,8 @@ noSpan = record { greatest = noCentre; least = noCentre }
 
 -- both ordinates are near enough to go on, the least not above the greatest
 pub record SpanFits (span : Span) : Type 0 where
-  pub greatest : Within ordinateMost (span .greatest .ordinate)
-  pub least : Within ordinateMost (span .least .ordinate)
+  pub greatest : Within transverseMost (span .greatest .ordinate)
+  pub least : Within transverseMost (span .least .ordinate)
   pub order : span .least .ordinate ≤ℤ span .greatest .ordinate
 
 -- one to five lanes, each span near enough

@@ -5,7 +5,7 @@ ghost use lib.ListN.{length, getD};
 ghost use Rattle.exact.specs.Bounds.{Within};
 ghost use Rattle.model.specs.Lanes.{laneCount};
 ghost use Rattle.model.specs.Decode.{carriageway};
-ghost use Rattle.model.specs.Bounds.{ordinateMost};
+ghost use Rattle.model.specs.Magnitudes.{transverseMost};
 ghost use Rattle.lanes.specs.Transverse.{TransverseFits, OrdinatesTo};
 ghost use Rattle.lanes.specs.Spans.{SpanRight, noSpan, AcrossRight};
 ghost use Rattle.lanes.specs.Candidates.{ordinateAt, betterCentre, BestBefore};
@@ -23,7 +23,7 @@ fn ordinate(across: &[u8], d: usize, centre: usize) -> i64
     requires { ⌜ 0 < d ⌝ }
     requires { ⌜ d ≤ 250 ⌝ }
     requires { ⌜ OrdinatesTo (now across) (centre / d + 1) ⌝ }
-    ensures { λ r. ⌜ (r ≡ ordinateAt (now (across .entry)) d centre) × Within ordinateMost r ⌝ }
+    ensures { λ r. ⌜ (r ≡ ordinateAt (now (across .entry)) d centre) × Within transverseMost r ⌝ }
 {
     let m = centre / d;
     let j = centre % d;

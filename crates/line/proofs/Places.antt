@@ -2,13 +2,14 @@
 use mathlib.Core.Path.{_≡_, refl, sym, _∙_, ap, ap₂, subst}
 use mathlib.Core.Bool.{Bool}
 use mathlib.Core.List.{List}
-use Prim.Native.Nat.{ℕ, _+_, _-_, _*_, _/_, _%_, _≤_, _<_}
+use Prim.Native.Nat.{ℕ, zero, suc, _+_, _-_, _*_, _/_, _%_, _≤_, _<_}
+use native.Mathlib.Nat.{div-one, mod-one}
 use native.Mathlib.Decide.{decLe, ℕ-discrete}
 use native.Mathlib.Omega.{arith}
 use lib.Dec.{eqb}
 use lib.IntN.{ℤ, pos, negsuc, _+ℤ_, _*ℤ_}
 use lib.Signed.{_≤ℤ_}
-use borrow.Author.Tests.{eq-eqb, ne-eqb}
+use borrow.Author.Tests.{eq-eqb, ne-eqb, lt-ltb}
 use Rattle.exact.specs.Bounds.{Within}
 use Rattle.exact.specs.Choice.{if_then_else_}
 use Rattle.exact.specs.Parts.{up}
@@ -16,13 +17,13 @@ use Rattle.exact.specs.Questions.{better, NoBetter, extreme}
 use Rattle.exact.specs.declared.Question.{Question}
 use Rattle.exact.specs.declared.Question.the-variants.{Greatest, Least}
 use Rattle.exact.proofs.Bounds.{within-pos, within-add}
-use Rattle.exact.proofs.Bridge.{ℕ→≤, ≤→ℕ, added, subbed, up-neg, dn-neg}
+use Rattle.exact.proofs.Bridge.{ℕ→≤, ≤→ℕ, ℕ→≡, added, subbed, up-neg, dn-neg}
 use Rattle.exact.proofs.Extremes.{no-better-trans, no-better-antisym, better-left, better-right, better-least, extreme-step, extreme-bounds, extreme-least, Met, extreme-met}
 use Rattle.exact.proofs.Order.{pos-nonneg}
-use Rattle.exact.proofs.Ring.{_⊕_, _⊗_, lit, _≐_, _≼_, _⇒_, solve, linear}
+use Rattle.exact.proofs.Ring.{_⊕_, _⊝_, _⊗_, lit, _≐_, _≼_, _⇒_, solve, linear}
 use Rattle.model.specs.Words.{wordAt}
 use Rattle.model.specs.Job.{InfluenceLine}
-use Rattle.model.specs.Line.{axleSpacing, ordinate, station, bestPair}
+use Rattle.model.specs.Line.{axleSpacing, along, ordinate, pair, station, bestPair}
 use Rattle.model.specs.Decode.{influenceLine}
 use Rattle.model.specs.Answered.{PositionRight}
 use Rattle.model.specs.declared.Sense.{Sense}
@@ -33,8 +34,44 @@ use Rattle.line.specs.LineFits.{LineFits}
 use Rattle.line.specs.PairPlaces.{pairAt, betterSide, PairStands, sideAt, placed, standOf, turned, rankOf, bestRank, rankFor, RanksRight}
 use Rattle.line.specs.declared.pair.Stand.{Stand}
 use Rattle.line.specs.declared.pair.Ranks.{Ranks}
-use Rattle.line.proofs.Axles.{right-on, left-on, pair-both, pair-ahead}
 
+-- ---- one axle and the pair, at a station counted as the code counts it
+module _ (line : InfluenceLine) where
+  -- on the line: the left ordinate of the piece that starts at z, the right one of the piece that ends there
+  right-on : (z : ℕ) → z < line .pieces → ordinate line 1 (pos z) Right ≡ line .piece z .left
+  unfolding ordinate along
+  right-on z h =
+      rw (div-one z, mod-one z, lt-ltb z (line .pieces) h)
+      (solve 2 (λ a b. (lit 1 ⊝ lit 0) ⊗ a ⊕ lit 0 ⊗ b ≐ a) tt (line .piece z .left) (line .piece z .right))
+
+  left-on : (z : ℕ) → ¬ (z ≡ 0) → z - 1 < line .pieces → ordinate line 1 (pos z) Left ≡ line .piece (z - 1) .right
+  unfolding ordinate along
+  left-on zero f h = absurd (f refl)
+  left-on (suc y) f h =
+      let e : suc y - 1 ≡ y = omega arith in
+      rw e
+      (rw (div-one y, mod-one y, lt-ltb y (line .pieces) (omega arith))
+      (solve 2 (λ a b. (lit 1 ⊝ lit 1) ⊗ a ⊕ lit 1 ⊗ b ≐ b) tt (line .piece y .left) (line .piece y .right)))
+
+  -- the right axle is at s
+  right-axle : (s : ℕ) → station line s +ℤ pos (1 * axleSpacing line) ≡ pos s
+  right-axle s = solve 2 (λ s d. s ⊝ d ⊕ lit 1 ⊗ d ≐ s) tt (pos s) (pos (axleSpacing line))
+
+  -- the left axle is at s - d, or off the line
+  pair-both : (s : ℕ) (side : Side) → axleSpacing line ≤ s → pairAt line s side ≡ ordinate line 1 (pos (s - axleSpacing line)) side +ℤ ordinate line 1 (pos s) side
+  unfolding pair
+  pair-both s side h =
+      let e : station line s ≡ pos (s - axleSpacing line) = ℕ→≡ (station line s) (pos (s - axleSpacing line)) (omega (arith, subbed (pos s) (pos (axleSpacing line)))) in
+      ap₂ (λ (x y : ℤ). ordinate line 1 x side +ℤ ordinate line 1 y side) e (right-axle s)
+
+  pair-ahead : (s : ℕ) (side : Side) → s < axleSpacing line → pairAt line s side ≡ ordinate line 1 (pos s) side
+  unfolding pair ordinate
+  pair-ahead s side h =
+      let e : station line s ≡ negsuc (axleSpacing line - suc s) = ℕ→≡ (station line s) (negsuc (axleSpacing line - suc s)) (omega (arith, subbed (pos s) (pos (axleSpacing line)))) in
+      ap₂ (λ (x y : ℤ). ordinate line 1 x side +ℤ ordinate line 1 y side) e (right-axle s)
+      ∙ solve 1 (λ x. lit 0 ⊕ x ≐ x) tt (ordinate line 1 (pos s) side)
+
+-- ---- places
 pub even-side : (p : ℕ) → p % 2 ≡ 0 → sideAt p ≡ Left
 even-side p e = ap (λ (b : Bool). if b then Left else Right) (eq-eqb (p % 2) 0 e)
 

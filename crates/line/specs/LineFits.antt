@@ -3,20 +3,21 @@ use Prim.Native.Nat.{ℕ, _+_, _*_, _≤_, _<_}
 use mathlib.Core.List.{List}
 use lib.ListN.{length}
 use Rattle.exact.specs.Bounds.{Within}
+use Rattle.model.specs.Magnitudes.{piecesMost, ordinateMost}
 use Rattle.model.specs.Words.{wordAt}
 
 -- word k is there and within its limits
 pub record WordFits (s : List ℕ) (k : ℕ) : Type 0 where
   pub room : 4 * k + 4 ≤ length s
-  pub near : Within 5000 (wordAt s k)
+  pub near : Within ordinateMost (wordAt s k)
 
 -- so are piece i's two ordinates
 pub record PieceFits (s : List ℕ) (i : ℕ) : Type 0 where
   pub room : 8 * i + 8 ≤ length s
-  pub near : (k : ℕ) → 2 * i ≤ k → k ≤ 2 * i + 1 → Within 5000 (wordAt s k)
+  pub near : (k : ℕ) → 2 * i ≤ k → k ≤ 2 * i + 1 → Within ordinateMost (wordAt s k)
 
 -- and those of n pieces
 pub record LineFits (s : List ℕ) (n : ℕ) : Type 0 where
   pub room : 8 * n ≤ length s
-  pub few : n ≤ 1000
-  pub near : (k : ℕ) → k < 2 * n → Within 5000 (wordAt s k)
+  pub few : n ≤ piecesMost
+  pub near : (k : ℕ) → k < 2 * n → Within ordinateMost (wordAt s k)

@@ -9,6 +9,7 @@ use Rattle.exact.specs.Choice.{if_then_else_}
 use Rattle.exact.specs.Questions.{better, extreme}
 use Rattle.exact.specs.declared.Question.{Question}
 use Rattle.exact.specs.declared.Question.the-variants.{Greatest, Least}
+use Rattle.model.specs.Magnitudes.{pairMost}
 use Rattle.model.specs.Words.{wordAt}
 use Rattle.model.specs.Job.{InfluenceLine}
 use Rattle.model.specs.Line.{pair, station}
@@ -33,7 +34,7 @@ pub record PairStands (line : InfluenceLine) (last : ℕ) (v : ℤ) (s : Stand) 
   pub value : s .value ≡ v
   pub attained : pairAt line (s .station) (s .side) ≡ v
   pub station : s .station ≤ last
-  pub near : Within 10000 v
+  pub near : Within pairMost v
 
 -- the side of place p
 abbrev pub sideAt : ℕ → Side
@@ -52,7 +53,7 @@ abbrev pub turned : Question → ℕ → ℕ
 turned Greatest p = 4095 - p
 turned Least p = p
 
--- ordinates v and their place in one number
+-- ordinates v and their place in one number: of 4096 places the pair has at most 2102
 abbrev pub rankOf : Question → ℤ → ℕ → ℤ
 rankOf q v p = pos 4096 *ℤ (pos 10000 +ℤ v) +ℤ pos (turned q p)
 

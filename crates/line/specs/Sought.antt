@@ -5,10 +5,10 @@ use lib.Dec.{eqb}
 use lib.IntN.{ℤ, pos, _*ℤ_}
 use Rattle.exact.specs.Choice.{if_then_else_}
 use Rattle.exact.specs.Bounds.{Within}
-use Rattle.exact.specs.Parts.{up}
 use Rattle.exact.specs.Ranges.{sumTo}
+use Rattle.model.specs.Magnitudes.{pairMost, areaMost, lineMost}
 use Rattle.model.specs.Job.{Piece, InfluenceLine}
-use Rattle.model.specs.Line.{Kind, axle, axleSpacing, sought, endSum, patchByte, loadedByte, bestPair, lineEffect}
+use Rattle.model.specs.Line.{Kind, axleSpacing, sought, endSum, patchByte, loadedByte, bestPair, lineEffect}
 use Rattle.model.specs.Answered.{PositionRight}
 use Rattle.model.specs.declared.Sense.{Sense}
 use Rattle.model.specs.declared.Sense.the-variants.{Raising, Lowering}
@@ -24,17 +24,17 @@ loadedSum sense p = if eqb (patchByte p) (loadedByte sense) then endSum p else p
 unfoldable pub doubleArea : InfluenceLine → Sense → ℤ
 doubleArea line sense = pos (line .h) *ℤ sumTo (line .pieces) (λ i. loadedSum sense (line .piece i))
 
--- its numbers go on into arithmetic
+-- what is sought is near enough to 0 to go on into arithmetic
 pub record SoughtNear (s : Sought) : Type 0 where
-  pub area : Within 10000000 (s .area)
-  pub pair : Within 10000 (s .pair)
+  pub area : Within areaMost (s .area)
+  pub pair : Within pairMost (s .pair)
 
 -- a sense's area, and the best rank of its question over all places of the pair
 pub record Found (line : InfluenceLine) (sense : Sense) (a r : ℤ) : Type 0 where
   pub area : a ≡ doubleArea line sense
   pub rank : r ≡ bestRank (sought sense) (placed line) (2 * (line .pieces + axleSpacing line) + 1)
   pub few : line .pieces + axleSpacing line ≤ 1050
-  pub near : (p : ℕ) → Within 10000 (placed line p)
+  pub near : (p : ℕ) → Within pairMost (placed line p)
 
 -- the sense's area and best pair, with a position that gives it
 pub record SoughtRight (line : InfluenceLine) (sense : Sense) (s : Sought) : Type 0 where
@@ -55,4 +55,4 @@ SensesRight line s = (sense : Sense) → SoughtRight line sense (soughtFor sense
 -- a kind's line effect, in 75 N·U, on every line of which that is sought; near enough to go on
 pub record EffectRight (kind : Kind) (s : Sought) (r : ℤ) : Type 0 where
   pub is : (line : InfluenceLine) (sense : Sense) → SoughtRight line sense s → r ≡ lineEffect line kind sense
-  pub near : Within (70000000 + up (axle kind) * 10000) r
+  pub near : Within (lineMost kind) r

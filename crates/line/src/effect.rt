@@ -10,6 +10,7 @@ ghost use lib.IntN.{pos, _+ℤ_, _*ℤ_};
 ghost use lib.Signed.{_≤ℤ_};
 ghost use Rattle.exact.specs.Parts.{up};
 ghost use Rattle.exact.specs.Bounds.{Within};
+ghost use Rattle.model.specs.Magnitudes.{pairMost, areaMost};
 ghost use Rattle.model.specs.Job.{InfluenceLine};
 ghost use Rattle.model.specs.Decode.{influenceLine};
 ghost use Rattle.model.specs.Line.{sought as soughtBy};
@@ -35,7 +36,7 @@ fn question(sense: Sense) -> Question
 
 // What a sense seeks, by its area and the best rank of its question.
 fn sought_at(sense: Sense, area: i64, rank: i32, h: usize) -> Sought
-    requires { ⌜ (1 ≤ h) × Within 10000000 area × (pos 0 ≤ℤ rank) ⌝ }
+    requires { ⌜ (1 ≤ h) × Within areaMost area × (pos 0 ≤ℤ rank) ⌝ }
     ensures { λ r. ⌜ ((line : InfluenceLine) → line .h ≡ h → Found line sense area rank → SoughtRight line sense r) ⌝ }
 {
     let stand = pair::stand_of(question(sense), rank);
@@ -76,7 +77,7 @@ pub fn seek(line: &[u8], h: usize, n: usize) -> Senses
 pub(crate) fn effect(uniform: i64, axle: i64, s: Sought) -> i64
     requires { ⌜ SoughtNear s ⌝ }
     requires { ⌜ ((pos 0 ≤ℤ uniform) × Within 100 uniform) × ((pos 0 ≤ℤ axle) × Within 10000 axle) ⌝ }
-    ensures { λ r. ⌜ (r ≡ uniform *ℤ s .area +ℤ axle *ℤ s .pair) × Within (up uniform * 10000000 + up axle * 10000) r ⌝ }
+    ensures { λ r. ⌜ (r ≡ uniform *ℤ s .area +ℤ axle *ℤ s .pair) × Within (up uniform * areaMost + up axle * pairMost) r ⌝ }
 {
     uniform * s.area + axle * s.pair
 }

@@ -10,6 +10,7 @@ ghost use lib.Signed.{_≤ℤ_};
 ghost use Rattle.exact.specs.Bounds.{Within};
 ghost use Rattle.exact.specs.Questions.{better};
 ghost use Rattle.exact.specs.declared.Question.{Question};
+ghost use Rattle.model.specs.Magnitudes.{pairMost};
 ghost use Rattle.model.specs.Decode.{influenceLine};
 ghost use Rattle.line.specs.LineFits.{LineFits};
 ghost use Rattle.line.specs.PairPlaces.{sideAt, placed, standOf, turned, rankOf, rankFor, RanksRight, countOf, CountFits};
@@ -22,7 +23,7 @@ pub(crate) fn spacing(h: usize) -> usize
     50 / h
 }
 
-// So many places, a side of a station each.
+// The axles are so many places apart, two a station.
 fn places_apart(h: usize) -> usize
     requires { ⌜ 1 ≤ h ⌝ }
     ensures { λ r. ⌜ (r ≡ 2 * (50 / h)) × (r ≤ 100) ⌝ }
@@ -37,7 +38,7 @@ pub struct Stand {
     pub side: Side,
 }
 
-// A place as a rank has it, and a rank's as a place.
+// A place as a rank has it, or back: the lower place is the better.
 fn turn(q: Question, place: usize) -> usize
     requires { ⌜ place ≤ 4095 ⌝ }
     ensures { λ r. ⌜ (r ≡ turned q place) × (r ≤ 4095) ⌝ }
@@ -50,15 +51,15 @@ fn turn(q: Question, place: usize) -> usize
 
 // Ordinates and their place in one number: the better ordinates, at a tie the lower place, have the better number.
 fn rank(q: Question, v: i32, place: usize) -> i32
-    requires { ⌜ Within 10000 v × (place ≤ 4095) ⌝ }
+    requires { ⌜ Within pairMost v × (place ≤ 4095) ⌝ }
     ensures { λ r. ⌜ (r ≡ rankOf q v place) × Within 82000000 r ⌝ }
 {
     4096 * (10000 + v) + (turn(q, place) as i32)
 }
 
-// The better of the best rank so far and that of one place more, with the pair's ordinates there.
+// A question's best rank with one place more, where the pair counts v.
 fn improved(q: Question, best: i32, v: i32, place: usize) -> i32
-    requires { ⌜ Within 10000 v × (place ≤ 4095) ⌝ }
+    requires { ⌜ Within pairMost v × (place ≤ 4095) ⌝ }
     ensures { λ r. ⌜ r ≡ better q best (rankOf q v place) ⌝ }
 {
     let next = rank(q, v, place);
@@ -74,9 +75,9 @@ pub struct Ranks {
     pub least: i32,
 }
 
-// One place more.
+// The best ranks with one place more, where the pair counts v.
 fn ranked(best: Ranks, v: i32, place: usize) -> Ranks
-    requires { ⌜ Within 10000 v × (place ≤ 4095) ⌝ }
+    requires { ⌜ Within pairMost v × (place ≤ 4095) ⌝ }
     ensures { λ r. ⌜ ((q : Question) → rankFor q r ≡ better q (rankFor q best) (rankOf q v place)) ⌝ }
 {
     Ranks {
@@ -95,7 +96,7 @@ pub enum Axles {
 // The pair's ordinates with its right axle on word k.
 fn counted(line: &[u8], on: Axles, k: usize) -> i32
     requires { ⌜ CountFits (now line) on k ⌝ }
-    ensures { λ r. ⌜ (r ≡ countOf (now (line .entry)) on k) × Within 10000 r ⌝ }
+    ensures { λ r. ⌜ (r ≡ countOf (now (line .entry)) on k) × Within pairMost r ⌝ }
 {
     match on {
         Axles::Ahead => pieces::ordinate(line, k),
@@ -104,7 +105,7 @@ fn counted(line: &[u8], on: Axles, k: usize) -> i32
     }
 }
 
-// The best ranks, the pair's right axle on the words from .. to as well.
+// The best ranks with those of the pair's right axle on the words from .. to.
 fn stretch(line: &[u8], on: Axles, from: usize, to: usize, sofar: Ranks) -> Ranks
     requires { ⌜ (from ≤ to) × (to ≤ 4095) × ((k : ℕ) → from ≤ k → k < to → CountFits (now line) on k) ⌝ }
     ensures { λ r. ⌜ ((f : ℕ → ℤ) → ((k : ℕ) → from ≤ k → k < to → f (k + 1) ≡ countOf (now (line .entry)) on k) → RanksRight f from sofar → RanksRight f to r) ⌝ }
@@ -155,7 +156,7 @@ fn side_of(place: usize) -> Side
 // The stand that a rank stands for.
 pub(crate) fn stand_of(q: Question, rank: i32) -> Stand
     requires { ⌜ pos 0 ≤ℤ rank ⌝ }
-    ensures { λ r. ⌜ ((v : ℤ) (p : ℕ) → Within 10000 v → p ≤ 4095 → rank ≡ rankOf q v p → r ≡ standOf v p) × (r .station ≤ 2047) ⌝ }
+    ensures { λ r. ⌜ ((v : ℤ) (p : ℕ) → Within pairMost v → p ≤ 4095 → rank ≡ rankOf q v p → r ≡ standOf v p) × (r .station ≤ 2047) ⌝ }
 {
     let x = rank as usize;
     let place = turn(q, x % 4096);

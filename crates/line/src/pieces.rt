@@ -5,6 +5,7 @@ ghost use mathlib.Core.List.{_++_};
 ghost use Prim.Native.Nat.{ℕ, _*_, _≤_};
 ghost use lib.ListN.{length, drop};
 ghost use Rattle.exact.specs.Bounds.{Within};
+ghost use Rattle.model.specs.Magnitudes.{ordinateMost, pairMost, areaMost};
 ghost use Rattle.model.specs.Words.{wordAt};
 ghost use Rattle.model.specs.Decode.{pieceAt, influenceLine};
 ghost use Rattle.model.specs.Line.{endSum, patchByte, patchBytes, loadedByte};
@@ -14,7 +15,7 @@ ghost use Rattle.line.specs.Sought.{loadedSum, doubleArea};
 // Word k of the line, an ordinate.
 pub(crate) fn ordinate(line: &[u8], k: usize) -> i32
     requires { ⌜ WordFits (now line) k ⌝ }
-    ensures { λ r. ⌜ (r ≡ wordAt (now (line .entry)) k) × Within 5000 r ⌝ }
+    ensures { λ r. ⌜ (r ≡ wordAt (now (line .entry)) k) × Within ordinateMost r ⌝ }
 {
     words::word(line, k) as i32
 }
@@ -22,7 +23,7 @@ pub(crate) fn ordinate(line: &[u8], k: usize) -> i32
 // Piece i's ordinate sum a + b.
 fn end_sum(line: &[u8], i: usize) -> i32
     requires { ⌜ PieceFits (now line) i ⌝ }
-    ensures { λ r. ⌜ (r ≡ endSum (pieceAt (now (line .entry)) i)) × Within 10000 r ⌝ }
+    ensures { λ r. ⌜ (r ≡ endSum (pieceAt (now (line .entry)) i)) × Within pairMost r ⌝ }
 {
     ordinate(line, 2 * i) + ordinate(line, 2 * i + 1)
 }
@@ -55,7 +56,7 @@ fn loaded_byte(sense: Sense) -> u8
 // Piece i's ordinate sum where an element of the sense loads it, else 0.
 fn loaded_sum(line: &[u8], i: usize, sense: Sense) -> i32
     requires { ⌜ PieceFits (now line) i ⌝ }
-    ensures { λ r. ⌜ (r ≡ loadedSum sense (pieceAt (now (line .entry)) i)) × Within 10000 r ⌝ }
+    ensures { λ r. ⌜ (r ≡ loadedSum sense (pieceAt (now (line .entry)) i)) × Within pairMost r ⌝ }
 {
     if patch_byte(line, i) == loaded_byte(sense) {
         return end_sum(line, i);
@@ -67,7 +68,7 @@ fn loaded_sum(line: &[u8], i: usize, sense: Sense) -> i32
 pub(crate) fn double_area(line: &[u8], h: usize, n: usize, sense: Sense) -> i64
     requires { ⌜ LineFits (now line) n ⌝ }
     requires { ⌜ (h ≤ 50) × (n * h ≤ 1000) ⌝ }
-    ensures { λ r. ⌜ (r ≡ doubleArea (influenceLine (now (line .entry)) h n) sense) × Within 10000000 r ⌝ }
+    ensures { λ r. ⌜ (r ≡ doubleArea (influenceLine (now (line .entry)) h n) sense) × Within areaMost r ⌝ }
 {
     let mut sum: i32 = 0;
     for i in 0..n {

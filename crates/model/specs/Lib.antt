@@ -1,6 +1,5 @@
 pub mod Words
 pub mod Job
-pub mod Magnitudes
 pub mod Fields
 pub mod Format
 pub mod Chains
@@ -8,8 +7,8 @@ pub mod Dynamic
 pub mod Decode
 pub mod Refusals
 pub mod Line
+pub mod Magnitudes
 pub mod Lanes
-pub mod Bounds
 pub mod Traffic
 pub mod Rows
 pub mod Arrangements

@@ -1,19 +1,77 @@
--- What values may come to, at most, either side of zero; each fits signed 64 bits where it is formed.
-use Prim.Native.Nat.{ℕ, _*_}
+-- How far from zero an accepted job's numbers can be, so that the arithmetic on them fits 64 signed bits.
+use Prim.Native.Nat.{ℕ, _+_, _*_}
+use Rattle.exact.specs.Parts.{up}
+use Rattle.model.specs.Line.{Kind, HN, HO, axle}
 
--- rows
+-- ---- the line
+
+-- pieces: refusal 2
+abbrev pub piecesMost : ℕ
+piecesMost = 1000
+
+-- an ordinate in U: refusal 4
+abbrev pub ordinateMost : ℕ
+ordinateMost = 5000
+
+-- a piece's ordinate sum, and a pair of axles': two ordinates
+abbrev pub pairMost : ℕ
+pairMost = 10000
+
+-- twice a line's area in dm·U: pieces of 1000 dm in all, an ordinate sum each
+abbrev pub areaMost : ℕ
+areaMost = 10000000
+
+-- a kind's line effect in 75 N·U: 7 times twice an area, and a pair of its axles
+abbrev pub lineMost : Kind → ℕ
+lineMost kind = 7 * areaMost + up (axle kind) * pairMost
+
+-- HN's, 86,000,000, and HO's, 102,000,000
+abbrev pub hnLineMost : ℕ
+hnLineMost = lineMost HN
+
+abbrev pub hoLineMost : ℕ
+hoLineMost = lineMost HO
+
+-- ---- lanes
+
+-- a transverse ordinate times unit and g: 1000 thousandths, 5 lanes, 50 cm
+abbrev pub transverseMost : ℕ
+transverseMost = 250000
+
+-- an HN element's effect: its line effect times a transverse ordinate
+abbrev pub hnLaneMost : ℕ
+hnLaneMost = 21500000000000
+
+-- an HO element's effect
+abbrev pub hoLaneMost : ℕ
+hoLaneMost = 25500000000000
+
+-- the effects of five HN lanes together
+abbrev pub hnLanesMost : ℕ
+hnLanesMost = 107500000000000
+
+-- a set of HN lanes at its r: r times their number is at most 60
+abbrev pub setMost : ℕ
+setMost = 1290000000000000
+
+-- a live kind's sum: HO at 20 and a set; 3 times the dynamic factor times it is 7.02e18
+abbrev pub sumMost : ℕ
+sumMost = 1800000000000000
+
+-- a traffic value in N·U: 3 times 1300 times a sum over 800000 times 10 is below 8.8e11
+abbrev pub trafficMost : ℕ
+trafficMost = 1000000000000
+
+-- ---- rows
+
 -- an effect's value in N·U: its word's 1000000000 kN·U
 abbrev pub effectMost : ℕ
 effectMost = 1000 * 1000000000
-
--- a traffic value in N·U: lanes ensure it
-abbrev pub trafficMost : ℕ
-trafficMost = 1000000000000
 
 -- a share of a row's value in thousandths of N·U: a factor of at most 3000 times an effect or the traffic
 abbrev pub shareMost : ℕ
 shareMost = 3000 * 1000000000000
 
--- a chain's value: 16 shares, for a chain names each of at most 16 effects at most once (proofs/Few)
+-- a chain's value: 16 shares, for a chain names each of at most 16 effects at most once
 abbrev pub chainMost : ℕ
 chainMost = 16 * shareMost

@@ -7,7 +7,7 @@ use Rattle.exact.specs.declared.Question.the-variants.{Greatest, Least}
 use Rattle.model.specs.Job.{Job}
 use Rattle.model.specs.Decode.{decode}
 use Rattle.model.specs.Line.{HN, HO}
-use Rattle.model.specs.Bounds.{hnLineMost, hoLineMost}
+use Rattle.model.specs.Magnitudes.{hnLineMost, hoLineMost}
 use Rattle.lanes.specs.Transverse.{TransverseFits}
 use Rattle.lanes.specs.Spans.{Spanned}
 use Rattle.lanes.specs.Loadings.{LineEffectsFit, effectsOf}

@@ -8,7 +8,7 @@ use Rattle.exact.specs.Questions.{beats, other}
 use Rattle.exact.specs.declared.Question.{Question}
 use Rattle.exact.proofs.Extremes.{beats-yes, beats-no}
 use Rattle.exact.proofs.Held.{Kept, arg, known, retold, beats-held, times, times! }
-use Rattle.model.specs.Bounds.{ordinateMost, hoLineMost, hoLaneMost}
+use Rattle.model.specs.Magnitudes.{transverseMost, hoLineMost, hoLaneMost}
 use Rattle.lanes.specs.declared.centres.Centre.{Centre}
 use Rattle.lanes.specs.declared.centres.Span.{Span}
 use Rattle.lanes.specs.Entries.{bestOf}
@@ -18,9 +18,9 @@ use Rattle.lanes.proofs.entries.choose.Statement.{statement}
 use Rattle.lanes.proofs.entries.choose.Tie as tie
 
 -- an ordinate as a call returned it
-abbrev ordinate : (x : Centre) (q : Question) (span : Span) → x ≡ bestOf q span → SpanFits span → Kept w64 ordinateMost (bestOf q span .ordinate)
+abbrev ordinate : (x : Centre) (q : Question) (span : Span) → x ≡ bestOf q span → SpanFits span → Kept w64 transverseMost (bestOf q span .ordinate)
 ordinate x q span e h =
-    (_, retold (known w64 {z = x .ordinate} (subst (λ (y : Centre). Within ordinateMost (y .ordinate)) (sym e) (near-of q span h)) (lit< tt)) (ap (λ (y : Centre). y .ordinate) e))
+    (_, retold (known w64 {z = x .ordinate} (subst (λ (y : Centre). Within transverseMost (y .ordinate)) (sym e) (near-of q span h)) (lit< tt)) (ap (λ (y : Centre). y .ordinate) e))
 
 best-of-requires : tie.Need-best-of-requires
 best-of-requires c κs = search needs
@@ -38,10 +38,10 @@ module _ (c : tie.After-worst-of) where
   abbrev span : Span
   span = s .args .span
 
-  abbrev best : Kept w64 ordinateMost (bestOf q span .ordinate)
+  abbrev best : Kept w64 transverseMost (bestOf q span .ordinate)
   best = ordinate (c .before .best-of .result) q span (c .before .best-of .ensures) (s .pre .0)
 
-  abbrev worst : Kept w64 ordinateMost (bestOf (other q) span .ordinate)
+  abbrev worst : Kept w64 transverseMost (bestOf (other q) span .ordinate)
   worst = ordinate (c .worst-of .result) (other q) span (c .worst-of .ensures) (s .pre .0)
 
   abbrev raising : Kept w64 hoLineMost (s .args .raising)

@@ -5,7 +5,7 @@ use mir.Syntax.{w64}
 use borrow.Author.Needs.{needs}
 use Rattle.exact.specs.Bounds.{Within}
 use Rattle.exact.proofs.Held.{known}
-use Rattle.model.specs.Bounds.{setMost}
+use Rattle.model.specs.Magnitudes.{setMost}
 use Rattle.lanes.specs.Sets.{valueAt, BestBeside}
 use Rattle.lanes.proofs.Best.{set-near, normal-right}
 use Rattle.lanes.proofs.sets.best_normal.Statement.{statement}

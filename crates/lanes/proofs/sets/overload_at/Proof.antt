@@ -12,7 +12,7 @@ use Rattle.exact.proofs.Held.{Kept, arg, known, got, told, plus, plus!, times, 
 use Rattle.exact.proofs.Weights.{count-le}
 use Rattle.model.specs.Lanes.{bit, reduction}
 use Rattle.model.specs.Traffic.{setSum}
-use Rattle.model.specs.Bounds.{hoLaneMost, setMost}
+use Rattle.model.specs.Magnitudes.{hoLaneMost, setMost}
 use Rattle.lanes.specs.Sets.{valueAt}
 use Rattle.lanes.proofs.Best.{set-near}
 use Rattle.lanes.proofs.sets.overload_at.Statement.{statement}

@@ -17,13 +17,17 @@ improved-requires c κs = search needs
 improved-requires-2 : tie.Need-improved-requires-2
 improved-requires-2 c κs = search needs
 
--- rank and ordinates as they were passed
-passed : (s : tie.Start) (q : Question) → SFits w32 (rankFor q (s .args .best)) → better q (toZ w32 (ofZ w32 (rankFor q (s .args .best)))) (rankOf q (toZ w32 (ofZ w32 (s .args .v))) (s .args .place)) ≡ better q (rankFor q (s .args .best)) (rankOf q (s .args .v) (s .args .place))
-passed s q f = ap₂ (λ (r v : ℤ). better q r (rankOf q v (s .args .place))) (any f .is) (any (s .fits .v) .is)
+module _ (s : tie.Start) (q : Question) where
+  -- by rank and ordinates as they were passed
+  abbrev passed : ℤ
+  passed = better q (toZ w32 (ofZ w32 (rankFor q (s .args .best)))) (rankOf q (toZ w32 (ofZ w32 (s .args .v))) (s .args .place))
+
+  right : {r : ℤ} → SFits w32 (rankFor q (s .args .best)) → r ≡ passed → r ≡ better q (rankFor q (s .args .best)) (rankOf q (s .args .v) (s .args .place))
+  right f e = e ∙ ap₂ (λ (r v : ℤ). better q r (rankOf q v (s .args .place))) (any f .is) (any (s .fits .v) .is)
 
 returns : tie.Need-returns
-returns c Greatest = let g = c .before .before in back w32 (g .improved .ok) (g .improved .ensures ∙ passed (g .before .before) Greatest (search needs))
-returns c Least = back w32 (c .improved2 .ok) (c .improved2 .ensures ∙ passed (c .before .before .before .before) Least (search needs))
+returns c Greatest = let g = c .before .before in back w32 (g .improved .ok) (right (g .before .before) Greatest (search needs) (g .improved .ensures))
+returns c Least = back w32 (c .improved2 .ok) (right (c .before .before .before .before) Least (search needs) (c .improved2 .ensures))
 
 pub ranked-spec : {M : Type 1} → statement M
 ranked-spec = tie.close (tie.spec improved-requires improved-requires-2 returns)
