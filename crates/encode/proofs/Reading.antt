@@ -1,7 +1,7 @@
 -- An account takes its size in bytes, and a host that reads eight of them finds the number that stands there.
 use mathlib.Core.Path.{_≡_, refl, sym, ap, subst, _∙_}
 use mathlib.Core.List.{List, [], _∷_, _++_}
-use Prim.Native.Nat.{ℕ, zero, suc, _+_, _*_, _/_, _%_, _^_, _<_}
+use Prim.Native.Nat.{ℕ, zero, suc, _*_, _<_}
 use native.Mathlib.Nat.{not-suc-le-zero, le-of-suc-le-suc}
 use native.Mathlib.Omega.{arith}
 use lib.IntN.{ℤ, pos}
@@ -12,7 +12,8 @@ use mir.Facts.{toZ-ofZ, fits-ofZ}
 use Rattle.model.specs.declared.State.{State}
 use Rattle.model.specs.declared.State.the-variants.{Absent, Reported}
 use Rattle.model.specs.declared.Account.{Account}
-use Rattle.encode.specs.Encoding.{accountCount, accountSize, limitNumbers, countNumbers, accountNumbers, numberBytes, bytesOf, accountBytes, numberOf, ReadBack, AllFit}
+use Rattle.encode.specs.Encoding.{accountCount, accountSize, limitNumbers, countNumbers, accountNumbers, numberBytes, numbersBytes, accountBytes, numberOf, ReadBack, AllFit}
+use Rattle.buffer.proofs.Little.{little-read}
 use Rattle.encode.proofs.Stores.{bytes-length}
 
 pub limit-length : (s : State) → length (limitNumbers s) ≡ 11
@@ -30,38 +31,14 @@ account-count a =
 pub account-length : (a : Account) → length (accountBytes a) ≡ accountSize
 account-length a = bytes-length (accountNumbers a) ∙ ap (λ (n : ℕ). 8 * n) (account-count a)
 
--- eight digits to the base 256, each with what is above it
-horner : (x q₁ q₂ q₃ q₄ q₅ q₆ q₇ d₀ d₁ d₂ d₃ d₄ d₅ d₆ d₇ : ℕ) →
-    x ≡ d₀ + 256 * q₁ → q₁ ≡ d₁ + 256 * q₂ → q₂ ≡ d₂ + 256 * q₃ → q₃ ≡ d₃ + 256 * q₄ →
-    q₄ ≡ d₄ + 256 * q₅ → q₅ ≡ d₅ + 256 * q₆ → q₆ ≡ d₆ + 256 * q₇ → q₇ ≡ d₇ →
-    d₀ + 256 * d₁ + 65536 * d₂ + 16777216 * d₃ + 4294967296 * d₄ + 1099511627776 * d₅ + 281474976710656 * d₆ + 72057594037927936 * d₇ ≡ x
-horner x q₁ q₂ q₃ q₄ q₅ q₆ q₇ d₀ d₁ d₂ d₃ d₄ d₅ d₆ d₇ e₀ e₁ e₂ e₃ e₄ e₅ e₆ e₇ = omega arith
-
--- a number from its eight digits
-digits : (x : ℕ) → x < 2 ^ 64 →
-    x % 256 + 256 * (x / 256 % 256) + 65536 * (x / 65536 % 256) + 16777216 * (x / 16777216 % 256) + 4294967296 * (x / 4294967296 % 256)
-    + 1099511627776 * (x / 1099511627776 % 256) + 281474976710656 * (x / 281474976710656 % 256) + 72057594037927936 * (x / 72057594037927936 % 256)
-    ≡ x
-digits x h =
-    horner x (x / 256) (x / 65536) (x / 16777216) (x / 4294967296) (x / 1099511627776) (x / 281474976710656) (x / 72057594037927936)
-    (x % 256) (x / 256 % 256) (x / 65536 % 256) (x / 16777216 % 256) (x / 4294967296 % 256) (x / 1099511627776 % 256) (x / 281474976710656 % 256) (x / 72057594037927936 % 256)
-    (omega arith)
-    (omega arith)
-    (omega arith)
-    (omega arith)
-    (omega arith)
-    (omega arith)
-    (omega arith)
-    (omega arith)
-
 -- number k's bytes start at byte 8 * k, whatever follows
-bytes-from : (zs : List ℤ) (rest : List ℕ) (k : ℕ) → k < length zs → drop (8 * k) (bytesOf zs ++ rest) ≡ numberBytes (getD zs k (pos 0)) ++ (bytesOf (drop (suc k) zs) ++ rest)
-unfolding bytesOf
+bytes-from : (zs : List ℤ) (rest : List ℕ) (k : ℕ) → k < length zs → drop (8 * k) (numbersBytes zs ++ rest) ≡ numberBytes (getD zs k (pos 0)) ++ (numbersBytes (drop (suc k) zs) ++ rest)
+unfolding numbersBytes
 bytes-from [] rest k h = absurd (not-suc-le-zero h)
 bytes-from (z ∷ zs) rest zero h = refl
 bytes-from (z ∷ zs) rest (suc k) h =
     let e : 8 * suc k ≡ suc (suc (suc (suc (suc (suc (suc (suc (8 * k)))))))) = omega arith in
-    ap (λ (n : ℕ). drop n (bytesOf (z ∷ zs) ++ rest)) e ∙ bytes-from zs rest k (le-of-suc-le-suc h)
+    ap (λ (n : ℕ). drop n (numbersBytes (z ∷ zs) ++ rest)) e ∙ bytes-from zs rest k (le-of-suc-le-suc h)
 
 fit-at : (zs : List ℤ) → AllFit zs → (k : ℕ) → k < length zs → SFits w64 (getD zs k (pos 0))
 fit-at [] f k h = absurd (not-suc-le-zero h)
@@ -69,11 +46,11 @@ fit-at (z ∷ zs) f zero h = f .0
 fit-at (z ∷ zs) f (suc k) h = fit-at zs (f .1) k (le-of-suc-le-suc h)
 
 -- THE HOST READS WHAT WAS WRITTEN: number k of numbers that 64 bits hold
-pub number-read : (zs : List ℤ) (rest : List ℕ) → AllFit zs → (k : ℕ) → k < length zs → numberOf (drop (8 * k) (bytesOf zs ++ rest)) ≡ getD zs k (pos 0)
+pub number-read : (zs : List ℤ) (rest : List ℕ) → AllFit zs → (k : ℕ) → k < length zs → numberOf (drop (8 * k) (numbersBytes zs ++ rest)) ≡ getD zs k (pos 0)
 number-read zs rest fit k h =
     let f = fit-at zs fit k h in
     let z = getD zs k (pos 0) in
-    ap numberOf (bytes-from zs rest k h) ∙ ap (toZ w64) (digits (ofZ w64 z) (fits-ofZ f .fits)) ∙ toZ-ofZ f
+    ap numberOf (bytes-from zs rest k h) ∙ ap (toZ w64) (little-read 8 (ofZ w64 z) (numbersBytes (drop (suc k) zs) ++ rest) (fits-ofZ f .fits)) ∙ toZ-ofZ f
 
 -- an account's numbers
 pub account-read : (a : Account) (rest : List ℕ) → AllFit (accountNumbers a) → ReadBack (accountBytes a ++ rest) a

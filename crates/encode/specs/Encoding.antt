@@ -2,14 +2,14 @@
 -- Sides: 0 left, 1 right. Entries: 0 unloaded, 1 HN raising, 2 HN lowering, 3 HO raising, 4 HO lowering. A lane set has a bit a lane, the effects left out a bit an effect, the first the lowest.
 -- A reserved number is 0.
 use mathlib.Core.Path.{_≡_}
-use Prim.Native.Nat.{ℕ, zero, suc, _+_, _*_, _/_, _%_, _<_, _^_}
+use Prim.Native.Nat.{ℕ, zero, suc, _+_, _*_, _<_, _^_}
 use mathlib.Core.Bool.{Bool, true, false}
 use mathlib.Core.List.{List, [], _∷_, _++_}
 use lib.IntN.{ℤ, pos}
 use lib.ListN.{length, getD, drop, replicate}
-use lib.Seq.{sets}
 use mir.Syntax.{w64}
 use mir.Val.{SFits, toZ, ofZ}
+use Rattle.buffer.specs.Stored.{littleEndian, fromLittleEndian, Stored}
 use Rattle.model.specs.Numbers.{sideNumber, entryNumber}
 use Rattle.model.specs.Answered.{laneAt}
 use Rattle.model.specs.declared.Lane.{Lane}
@@ -85,31 +85,22 @@ abbrev pub accountNumbers : Account → List ℤ
 accountNumbers a =
     trafficNumbers a ++ placementsNumbers (a .normal) ++ placementsNumbers (a .overload) ++ (limitNumbers (a .service) ++ limitNumbers (a .ultimate)) ++ countNumbers a
 
--- the eight bytes of a 64-bit pattern, lowest first
-abbrev pub wordBytes : ℕ → List ℕ
-wordBytes x =
-    x % 256 ∷ x / 256 % 256 ∷ x / 65536 % 256 ∷ x / 16777216 % 256
-    ∷ x / 4294967296 % 256 ∷ x / 1099511627776 % 256 ∷ x / 281474976710656 % 256 ∷ x / 72057594037927936 % 256 ∷ []
-
 -- the eight bytes of a number in two's complement, lowest first
 abbrev pub numberBytes : ℤ → List ℕ
-numberBytes z = wordBytes (ofZ w64 z)
+numberBytes z = littleEndian 8 (ofZ w64 z)
 
 -- the bytes of numbers one after the other
-unfoldable pub bytesOf : List ℤ → List ℕ
-bytesOf [] = []
-bytesOf (z ∷ zs) = numberBytes z ++ bytesOf zs
+unfoldable pub numbersBytes : List ℤ → List ℕ
+numbersBytes [] = []
+numbersBytes (z ∷ zs) = numberBytes z ++ numbersBytes zs
 
 -- the bytes of an account
 abbrev pub accountBytes : Account → List ℕ
-accountBytes a = bytesOf (accountNumbers a)
+accountBytes a = numbersBytes (accountNumbers a)
 
 -- the number that the first eight bytes of a string stand for
 abbrev pub numberOf : List ℕ → ℤ
-numberOf s =
-    toZ w64
-    (getD s 0 0 + 256 * getD s 1 0 + 65536 * getD s 2 0 + 16777216 * getD s 3 0
-    + 4294967296 * getD s 4 0 + 1099511627776 * getD s 5 0 + 281474976710656 * getD s 6 0 + 72057594037927936 * getD s 7 0)
+numberOf s = toZ w64 (fromLittleEndian 8 s)
 
 -- what a host reads in an account's bytes are the account's numbers
 abbrev pub ReadBack : (bytes : List ℕ) → Account → Type 0
@@ -120,10 +111,10 @@ abbrev pub AllFit : List ℤ → Type 0
 AllFit [] = Unit {0}
 AllFit (z ∷ zs) = SFits w64 z × AllFit zs
 
--- a buffer before and after the bytes of numbers were put from `at` to `end`
-pub record Stored (before : List ℕ) (at : ℕ) (numbers : List ℤ) (after : List ℕ) (end : ℕ) : Type 0 where
+-- a buffer before and after numbers that 64 bits hold were put from `at` to `end`
+pub record Written (before : List ℕ) (at : ℕ) (numbers : List ℤ) (after : List ℕ) (end : ℕ) : Type 0 where
   pub ends : end ≡ at + 8 * length numbers
-  pub is : after ≡ sets before at (bytesOf numbers)
+  pub bytes : Stored before at (numbersBytes numbers) after end
   pub fit : AllFit numbers
 
 -- a live kind's centres, in n-ths of a cm, are read back as they are by a reader of signed numbers

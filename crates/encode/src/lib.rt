@@ -14,14 +14,13 @@ ghost use mathlib.Core.List.{[], _∷_, _++_};
 ghost use Prim.Native.Nat.{ℕ, _+_, _*_, _^_, _≤_, _<_};
 ghost use lib.IntN.{pos};
 ghost use lib.ListN.{length, drop, replicate};
-ghost use lib.Seq.{sets};
 ghost use mir.Syntax.{w64};
 ghost use mir.Val.{ofZ};
 ghost use Rattle.model.specs.Numbers.{sideNumber, entryNumber};
 ghost use Rattle.model.specs.Answered.{laneAt};
 ghost use Rattle.model.specs.declared.Entry.the-variants.{Hn, Ho};
 ghost use Rattle.model.specs.declared.State.the-variants.{Reported};
-ghost use Rattle.encode.specs.Encoding.{accountSize, valueNumbers, positionNumbers, trafficNumbers, laneNumbers, lanesNumbers, placementNumbers, placementsNumbers, flagNumber, governingNumbers, limitNumbers, wordBytes, accountBytes, ReadBack, Stored, CentresFit, RowsFit, CountsFit};
+ghost use Rattle.encode.specs.Encoding.{accountSize, valueNumbers, positionNumbers, trafficNumbers, laneNumbers, lanesNumbers, placementNumbers, placementsNumbers, flagNumber, governingNumbers, limitNumbers, accountBytes, ReadBack, Written, CentresFit, RowsFit, CountsFit};
 
 // The number of this layout.
 pub const LAYOUT: u32 = 1;
@@ -36,48 +35,27 @@ fn bits_of(v: i64) -> u64
     if v < 0 { !((!v) as u64) } else { v as u64 }
 }
 
-// Eight bytes, lowest first.
-fn put_bits(out: &mut [u8], at: usize, x: u64) -> usize
-    requires { ⌜ at + 8 ≤ length (now out) ⌝ }
-    ensures { λ r. ⌜ r ≡ at + 8 ⌝ }
-    ensures { λ _. ⌜ now (out .exit) ≡ sets (now (out .entry)) at (wordBytes x) ⌝ }
-{
-    out[at] = (x % 256) as u8;
-    out[at + 1] = (x / 256 % 256) as u8;
-    out[at + 2] = (x / 65536 % 256) as u8;
-    out[at + 3] = (x / 16777216 % 256) as u8;
-    out[at + 4] = (x / 4294967296 % 256) as u8;
-    out[at + 5] = (x / 1099511627776 % 256) as u8;
-    out[at + 6] = (x / 281474976710656 % 256) as u8;
-    out[at + 7] = (x / 72057594037927936 % 256) as u8;
-    at + 8
-}
-
 fn put_signed(out: &mut [u8], at: usize, v: i64) -> usize
     requires { ⌜ at + 8 ≤ length (now out) ⌝ }
-    ensures { λ r. ⌜ Stored (now (out .entry)) at (v ∷ []) (now (out .exit)) r ⌝ }
+    ensures { λ r. ⌜ Written (now (out .entry)) at (v ∷ []) (now (out .exit)) r ⌝ }
 {
-    put_bits(out, at, bits_of(v))
+    buffer::put_bits(out, at, bits_of(v))
 }
 
 fn put_count(out: &mut [u8], at: usize, x: u64) -> usize
     requires { ⌜ at + 8 ≤ length (now out) ⌝ }
     requires { ⌜ x < 2 ^ 63 ⌝ }
-    ensures { λ r. ⌜ Stored (now (out .entry)) at (pos x ∷ []) (now (out .exit)) r ⌝ }
+    ensures { λ r. ⌜ Written (now (out .entry)) at (pos x ∷ []) (now (out .exit)) r ⌝ }
 {
-    put_bits(out, at, x)
+    buffer::put_bits(out, at, x)
 }
 
 // So many zeros.
 fn put_zeros(out: &mut [u8], at: usize, n: usize) -> usize
     requires { ⌜ at + 8 * n ≤ length (now out) ⌝ }
-    ensures { λ r. ⌜ Stored (now (out .entry)) at (replicate n (pos 0)) (now (out .exit)) r ⌝ }
+    ensures { λ r. ⌜ Written (now (out .entry)) at (replicate n (pos 0)) (now (out .exit)) r ⌝ }
 {
-    let mut end = at;
-    for i in 0..n {
-        end = put_count(out, end, 0);
-    }
-    end
+    buffer::put_zeros(out, at, 8 * n)
 }
 
 // 0 left, 1 right.
@@ -131,7 +109,7 @@ fn flag_number(b: bool) -> u64
 // The two values of a live kind.
 fn put_values(out: &mut [u8], at: usize, t: Traffic) -> usize
     requires { ⌜ at + 16 ≤ length (now out) ⌝ }
-    ensures { λ r. ⌜ Stored (now (out .entry)) at (valueNumbers t) (now (out .exit)) r ⌝ }
+    ensures { λ r. ⌜ Written (now (out .entry)) at (valueNumbers t) (now (out .exit)) r ⌝ }
 {
     let greatest = t.greatest;
     let least = t.least;
@@ -142,7 +120,7 @@ fn put_values(out: &mut [u8], at: usize, t: Traffic) -> usize
 // A station and its side.
 fn put_position(out: &mut [u8], at: usize, p: Position) -> usize
     requires { ⌜ at + 16 ≤ length (now out) ⌝ }
-    ensures { λ r. ⌜ Stored (now (out .entry)) at (positionNumbers p) (now (out .exit)) r ⌝ }
+    ensures { λ r. ⌜ Written (now (out .entry)) at (positionNumbers p) (now (out .exit)) r ⌝ }
 {
     let side = p.side;
     let end = put_signed(out, at, p.station);
@@ -153,7 +131,7 @@ fn put_position(out: &mut [u8], at: usize, p: Position) -> usize
 fn put_lane(out: &mut [u8], at: usize, l: Lane) -> usize
     requires { ⌜ at + 24 ≤ length (now out) ⌝ }
     requires { ⌜ l .centre < 2 ^ 63 ⌝ }
-    ensures { λ r. ⌜ Stored (now (out .entry)) at (laneNumbers l) (now (out .exit)) r ⌝ }
+    ensures { λ r. ⌜ Written (now (out .entry)) at (laneNumbers l) (now (out .exit)) r ⌝ }
 {
     let entry = l.entry;
     let mut end = put_count(out, at, entry_number(entry));
@@ -165,7 +143,7 @@ fn put_lane(out: &mut [u8], at: usize, l: Lane) -> usize
 fn put_lanes(out: &mut [u8], at: usize, p: Placement) -> usize
     requires { ⌜ at + 120 ≤ length (now out) ⌝ }
     requires { ⌜ ((i : ℕ) → laneAt p i .centre < 2 ^ 63) ⌝ }
-    ensures { λ r. ⌜ Stored (now (out .entry)) at (lanesNumbers p 5) (now (out .exit)) r ⌝ }
+    ensures { λ r. ⌜ Written (now (out .entry)) at (lanesNumbers p 5) (now (out .exit)) r ⌝ }
 {
     let mut end = at;
     for i in 0..5 {
@@ -179,7 +157,7 @@ fn put_lanes(out: &mut [u8], at: usize, p: Placement) -> usize
 fn put_placement(out: &mut [u8], at: usize, p: Placement) -> usize
     requires { ⌜ at + 248 ≤ length (now out) ⌝ }
     requires { ⌜ ((i : ℕ) → laneAt p i .centre < 2 ^ 63) ⌝ }
-    ensures { λ r. ⌜ Stored (now (out .entry)) at (placementNumbers p) (now (out .exit)) r ⌝ }
+    ensures { λ r. ⌜ Written (now (out .entry)) at (placementNumbers p) (now (out .exit)) r ⌝ }
 {
     let mut end = put_count(out, at, p.set as u64);
     end = put_lanes(out, end, p);
@@ -190,7 +168,7 @@ fn put_placement(out: &mut [u8], at: usize, p: Placement) -> usize
 fn put_placements(out: &mut [u8], at: usize, t: Traffic) -> usize
     requires { ⌜ at + 496 ≤ length (now out) ⌝ }
     requires { ⌜ CentresFit t ⌝ }
-    ensures { λ r. ⌜ Stored (now (out .entry)) at (placementsNumbers t) (now (out .exit)) r ⌝ }
+    ensures { λ r. ⌜ Written (now (out .entry)) at (placementsNumbers t) (now (out .exit)) r ⌝ }
 {
     let greatest = t.greatest;
     let least = t.least;
@@ -204,7 +182,7 @@ fn put_placements(out: &mut [u8], at: usize, t: Traffic) -> usize
 fn put_governing(out: &mut [u8], at: usize, g: Governing) -> usize
     requires { ⌜ at + 40 ≤ length (now out) ⌝ }
     requires { ⌜ g .row < 2 ^ 63 ⌝ }
-    ensures { λ r. ⌜ Stored (now (out .entry)) at (governingNumbers g) (now (out .exit)) r ⌝ }
+    ensures { λ r. ⌜ Written (now (out .entry)) at (governingNumbers g) (now (out .exit)) r ⌝ }
 {
     let mut end = put_signed(out, at, g.value);
     end = put_count(out, end, g.row as u64);
@@ -217,7 +195,7 @@ fn put_governing(out: &mut [u8], at: usize, g: Governing) -> usize
 fn put_reported(out: &mut [u8], at: usize, greatest: Governing, least: Governing) -> usize
     requires { ⌜ at + 88 ≤ length (now out) ⌝ }
     requires { ⌜ (greatest .row < 2 ^ 63) × (least .row < 2 ^ 63) ⌝ }
-    ensures { λ r. ⌜ Stored (now (out .entry)) at (limitNumbers (Reported greatest least)) (now (out .exit)) r ⌝ }
+    ensures { λ r. ⌜ Written (now (out .entry)) at (limitNumbers (Reported greatest least)) (now (out .exit)) r ⌝ }
 {
     let mut end = put_count(out, at, 1);
     end = put_governing(out, end, greatest);
@@ -228,7 +206,7 @@ fn put_reported(out: &mut [u8], at: usize, greatest: Governing, least: Governing
 fn put_state(out: &mut [u8], at: usize, s: State) -> usize
     requires { ⌜ at + 88 ≤ length (now out) ⌝ }
     requires { ⌜ RowsFit s ⌝ }
-    ensures { λ r. ⌜ Stored (now (out .entry)) at (limitNumbers s) (now (out .exit)) r ⌝ }
+    ensures { λ r. ⌜ Written (now (out .entry)) at (limitNumbers s) (now (out .exit)) r ⌝ }
 {
     match s {
         State::Absent => put_zeros(out, at, 11),
@@ -239,7 +217,7 @@ fn put_state(out: &mut [u8], at: usize, s: State) -> usize
 // The four traffic values and the two positions, from a buffer's front on.
 fn put_traffic(out: &mut [u8], a: Account) -> usize
     requires { ⌜ 64 ≤ length (now out) ⌝ }
-    ensures { λ r. ⌜ Stored (now (out .entry)) 0 (trafficNumbers a) (now (out .exit)) r ⌝ }
+    ensures { λ r. ⌜ Written (now (out .entry)) 0 (trafficNumbers a) (now (out .exit)) r ⌝ }
 {
     let normal = a.normal;
     let overload = a.overload;
@@ -255,7 +233,7 @@ fn put_traffic(out: &mut [u8], a: Account) -> usize
 fn put_states(out: &mut [u8], at: usize, service: State, ultimate: State) -> usize
     requires { ⌜ at + 176 ≤ length (now out) ⌝ }
     requires { ⌜ RowsFit service × RowsFit ultimate ⌝ }
-    ensures { λ r. ⌜ Stored (now (out .entry)) at (limitNumbers service ++ limitNumbers ultimate) (now (out .exit)) r ⌝ }
+    ensures { λ r. ⌜ Written (now (out .entry)) at (limitNumbers service ++ limitNumbers ultimate) (now (out .exit)) r ⌝ }
 {
     let end = put_state(out, at, service);
     put_state(out, end, ultimate)
@@ -265,7 +243,7 @@ fn put_states(out: &mut [u8], at: usize, service: State, ultimate: State) -> usi
 fn put_counts(out: &mut [u8], at: usize, lanes: usize) -> usize
     requires { ⌜ at + 24 ≤ length (now out) ⌝ }
     requires { ⌜ lanes < 2 ^ 63 ⌝ }
-    ensures { λ r. ⌜ Stored (now (out .entry)) at (pos lanes ∷ pos 0 ∷ pos 0 ∷ []) (now (out .exit)) r ⌝ }
+    ensures { λ r. ⌜ Written (now (out .entry)) at (pos lanes ∷ pos 0 ∷ pos 0 ∷ []) (now (out .exit)) r ⌝ }
 {
     let end = put_count(out, at, lanes as u64);
     put_zeros(out, end, 2)
@@ -293,7 +271,6 @@ pub fn write(out: &mut [u8], a: Account)
 pub fn clear(out: &mut [u8])
     ensures { λ _. ⌜ now (out .exit) ≡ replicate (length (now (out .entry))) 0 ⌝ }
 {
-    for i in 0..out.len() {
-        out[i] = 0;
-    }
+    let n = out.len();
+    buffer::put_zeros(out, 0, n);
 }

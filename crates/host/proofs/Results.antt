@@ -10,7 +10,7 @@ use Rattle.model.specs.Answered.{Answered, refused, accepted, zeroAccount}
 use Rattle.model.specs.Determined.{Fixed, fixedOf}
 use Rattle.model.proofs.Determined.{determined}
 use Rattle.model.specs.declared.Answer.{Answer}
-use Rattle.encode.specs.Encoding.{accountSize, accountBytes, bytesOf}
+use Rattle.encode.specs.Encoding.{accountSize, accountBytes, numbersBytes}
 use Rattle.host.specs.Hosted.{packed, Hosted, short, answered}
 use Rattle.model.proofs.Places.{refusal-small, answer-small}
 
@@ -26,7 +26,7 @@ zero-accepts (answered l x (accepted v r) e a k) = (l, v)
 
 -- the account of a refusal is zero bytes
 zero-bytes : accountBytes zeroAccount ≡ replicate accountSize 0
-unfolding bytesOf
+unfolding numbersBytes
 zero-bytes = refl
 
 -- a refusal leaves the patch buffer as it was and the account's bytes 0

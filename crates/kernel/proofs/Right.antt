@@ -22,7 +22,7 @@ use Rattle.model.proofs.Attained.{reported-lawful, reported-gives}
 use Rattle.rows.specs.Governed.{liveFor, trafficOf}
 use Rattle.rows.specs.declared.state.LiveBoth.{LiveBoth}
 use Rattle.rows.proofs.Limits.{Given, state-right}
-use Rattle.kernel.specs.Parts.{reportedLive, StateOf, PartsRight}
+use Rattle.kernel.specs.AccountParts.{reportedLive, StateOf, PartsRight}
 use Rattle.lanes.specs.Loadings.{TrafficPlaced}
 
 module _ (job : Job) (signed : OneSigned (job .line)) (g-pos : zero < job .deck .g) (patch rest : List ℕ) (a : Account)

@@ -35,7 +35,7 @@ ghost use Rattle.model.specs.Job.{Limit};
 ghost use Rattle.model.specs.Answered.{zeroTraffic, refusalAnswer, Answered};
 ghost use Rattle.line.specs.Sought.{SoughtRight, SensesRight};
 ghost use Rattle.rows.specs.Governed.{trafficOf, LiveFits, stateFor, StateFound};
-ghost use Rattle.kernel.specs.Parts.{Ready, ValuesRight, PartsRight};
+ghost use Rattle.kernel.specs.AccountParts.{Ready, ValuesRight, PartsRight};
 
 // A live kind's two values, both 0, with every lane unloaded.
 fn no_traffic() -> Traffic

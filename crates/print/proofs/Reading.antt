@@ -17,7 +17,7 @@ use Rattle.model.specs.declared.State.{State}
 use Rattle.model.specs.declared.State.the-variants.{Absent, Reported}
 use Rattle.model.specs.declared.Account.{Account}
 use Rattle.model.specs.declared.Answer.{Answer}
-use Rattle.print.specs.Text.{ascii, digit, digits, decimal, signed, governing, reportLine, trafficLine, stateLine, accountText, refusalLine, answerText, numberFrom}
+use Rattle.print.specs.Text.{ascii, digit, digits, decimal, signed, report, trafficLine, governingText, stateLine, accountText, refusalLine, answerText, numberFrom}
 
 -- one digit more
 number-digit : (s : List ℕ) (m d : ℕ) → numberFrom m (s ++ digit d) ≡ 10 * numberFrom m s + d
@@ -105,16 +105,16 @@ unfolding newlines signed
 signed-line (pos n) = digits-line 20 n
 signed-line (negsuc n) = and-lines (word "-") (digits-line 20 (suc n))
 
-report-lines : {name g l : List ℕ} → Lines name 0 → Lines g 0 → Lines l 0 → Lines (reportLine name g l) 1
+report-lines : {name g l : List ℕ} → Lines name 0 → Lines g 0 → Lines l 0 → Lines (name ++ report g l) 1
 unfolding newlines
-report-lines name g l = and-lines (and-lines (and-lines (and-lines (and-lines name (word " greatest ")) g) (word " least ")) l) (word "\n")
+report-lines name g l = and-lines name (and-lines (and-lines (and-lines (word " greatest ") g) (and-lines (word " least ") l)) (word "\n"))
 
 traffic-lines : {name : List ℕ} (t : Traffic) → Lines name 0 → Lines (trafficLine name t) 1
 traffic-lines t name = report-lines name (signed-line (t .greatest .value)) (signed-line (t .least .value))
 
-governing-lines : (g : Governing) → Lines (governing g) 0
+governing-lines : (g : Governing) → Lines (governingText g) 0
 unfolding newlines
-governing-lines g = and-lines (and-lines (signed-line (g .value)) (word " row ")) (digits-line 20 (g .row))
+governing-lines g = and-lines (signed-line (g .value)) (and-lines (word " row ") (digits-line 20 (g .row)))
 
 state-lines : {name : List ℕ} (s : State) → Lines name 0 → Lines (stateLine name s) 1
 unfolding newlines
@@ -131,11 +131,11 @@ account-lines a =
 refusal-lines : (number place : ℕ) → Lines (refusalLine number place) 1
 unfolding newlines
 refusal-lines number place =
-    and-lines (and-lines (and-lines (and-lines (word "refused ") (digits-line 20 number)) (word " at ")) (digits-line 20 place)) (word "\n")
+    and-lines (and-lines (and-lines (word "refused ") (digits-line 20 number)) (and-lines (word " at ") (digits-line 20 place))) (word "\n")
 
 state-ended : (name : List ℕ) (s : State) → Ended (stateLine name s)
 state-ended name Absent = and-ended name (record { body = ascii " none"; is = refl })
-state-ended name (Reported g l) = record { body = name ++ ascii " greatest " ++ governing g ++ ascii " least " ++ governing l; is = refl }
+state-ended name (Reported g l) = and-ended name (and-ended ((ascii " greatest " ++ governingText g) ++ (ascii " least " ++ governingText l)) (record { body = []; is = refl }))
 
 account-ended : (a : Account) → Ended (accountText a)
 account-ended a =
@@ -144,7 +144,7 @@ account-ended a =
     (state-ended (ascii "ultimate") (a .ultimate))
 
 refusal-ended : (number place : ℕ) → Ended (refusalLine number place)
-refusal-ended number place = record { body = ascii "refused " ++ decimal number ++ ascii " at " ++ decimal place; is = refl }
+refusal-ended number place = record { body = (ascii "refused " ++ decimal number) ++ (ascii " at " ++ decimal place); is = refl }
 
 -- NO ANSWER'S TEXT BEGINS ANOTHER'S: one that was cut short is no answer's
 pub cut-short : (a b : Answer) (rest : List ℕ) → answerText a ≡ answerText b ++ rest → rest ≡ []

@@ -12,9 +12,9 @@ use borrow.Author.Tests.{le-ltb, ltb-true}
 use mir.Syntax.{w64}
 use mir.Val.{SFits, toZ, ofZ}
 use mir.Facts.{toZ-ofZ}
+use Rattle.buffer.specs.Stored.{Stored}
+use Rattle.buffer.proofs.Stores.{retold}
 use Rattle.print.specs.Text.{ascii, decimal, signed}
-use Rattle.print.specs.Put.{Put}
-use Rattle.print.proofs.Texts.{retold}
 
 -- -1 less a number below 0
 flip : (n : ℕ) → negsuc 0 -ℤ negsuc n ≡ pos n
@@ -61,6 +61,6 @@ unfolding signed
 signed-above (pos n) t = refl
 signed-above (negsuc n) t = absurd (subst T t tt)
 
--- the text of a number that was read back from its bits
-pub signed-kept : {s w : List ℕ} {at r : ℕ} {z : ℤ} → SFits w64 z → Put s at (signed (toZ w64 (ofZ w64 z))) w r → Put s at (signed z) w r
-signed-kept f h = retold (ap signed (toZ-ofZ f)) h
+-- the text of a number that was read back from its bits, after a label
+pub signed-kept : {s w : List ℕ} {at r : ℕ} {z : ℤ} (label : List ℕ) → SFits w64 z → Stored s at (label ++ signed (toZ w64 (ofZ w64 z))) w r → Stored s at (label ++ signed z) w r
+signed-kept label f h = retold (ap (λ (y : ℤ). label ++ signed y) (toZ-ofZ f)) h

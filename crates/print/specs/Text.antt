@@ -43,22 +43,22 @@ unfoldable pub signed : ℤ → List ℕ
 signed (pos n) = decimal n
 signed (negsuc n) = ascii "-" ++ decimal (suc n)
 
--- a line of a greatest and a least
-abbrev pub reportLine : List ℕ → List ℕ → List ℕ → List ℕ
-reportLine name greatest least = name ++ ascii " greatest " ++ greatest ++ ascii " least " ++ least ++ ascii "\n"
+-- a line's greatest and least, after its name
+abbrev pub report : List ℕ → List ℕ → List ℕ
+report greatest least = (ascii " greatest " ++ greatest) ++ (ascii " least " ++ least) ++ ascii "\n"
 
 -- a live kind's line, in N·U
 abbrev pub trafficLine : List ℕ → Traffic → List ℕ
-trafficLine name t = reportLine name (signed (t .greatest .value)) (signed (t .least .value))
+trafficLine name t = name ++ report (signed (t .greatest .value)) (signed (t .least .value))
 
 -- a value with its row, in thousandths of N·U
-abbrev pub governing : Governing → List ℕ
-governing g = signed (g .value) ++ ascii " row " ++ decimal (g .row)
+abbrev pub governingText : Governing → List ℕ
+governingText g = signed (g .value) ++ (ascii " row " ++ decimal (g .row))
 
 -- a limit state's line
 abbrev pub stateLine : List ℕ → State → List ℕ
 stateLine name Absent = name ++ ascii " none\n"
-stateLine name (Reported greatest least) = reportLine name (governing greatest) (governing least)
+stateLine name (Reported greatest least) = name ++ report (governingText greatest) (governingText least)
 
 -- the four lines of an accepted job
 abbrev pub accountText : Account → List ℕ
@@ -68,7 +68,7 @@ accountText a =
 
 -- the line of a refused job
 abbrev pub refusalLine : ℕ → ℕ → List ℕ
-refusalLine number place = ascii "refused " ++ decimal number ++ ascii " at " ++ decimal place ++ ascii "\n"
+refusalLine number place = (ascii "refused " ++ decimal number) ++ (ascii " at " ++ decimal place) ++ ascii "\n"
 
 -- an answer: refusal 0 is acceptance
 abbrev pub answerText : Answer → List ℕ

@@ -9,27 +9,17 @@ ghost use mathlib.Core.List.{_++_};
 ghost use Prim.Native.Nat.{_+_, _≤_, _<_};
 ghost use lib.IntN.{natAbs};
 ghost use lib.ListN.{length, take, drop};
-ghost use Rattle.print.specs.Text.{digit, digits, decimal, signed, governing, trafficLine, stateLine, accountText, refusalLine, answerText};
-ghost use Rattle.print.specs.Put.{Put};
+ghost use Rattle.buffer.specs.Stored.{Stored};
+ghost use Rattle.print.specs.Text.{digit, digits, decimal, signed, report, trafficLine, governingText, stateLine, accountText, refusalLine, answerText};
 
 // Room for every answer's text.
 pub const SIZE: usize = 384;
-
-fn put_bytes(out: &mut [u8], at: usize, bytes: &[u8]) -> usize
-    requires { ⌜ at + length (now bytes) ≤ length (now out) ⌝ }
-    ensures { λ r. ⌜ Put (now (out .entry)) at (now (bytes .entry)) (now (out .exit)) r ⌝ }
-{
-    for i in 0..bytes.len() {
-        out[at + i] = bytes[i];
-    }
-    at + bytes.len()
-}
 
 // A digit from 0 to 9.
 fn put_digit(out: &mut [u8], at: usize, d: u64) -> usize
     requires { ⌜ at + 1 ≤ length (now out) ⌝ }
     requires { ⌜ d < 10 ⌝ }
-    ensures { λ r. ⌜ Put (now (out .entry)) at (digit d) (now (out .exit)) r ⌝ }
+    ensures { λ r. ⌜ Stored (now (out .entry)) at (digit d) (now (out .exit)) r ⌝ }
 {
     out[at] = b'0' + d as u8;
     at + 1
@@ -38,7 +28,7 @@ fn put_digit(out: &mut [u8], at: usize, d: u64) -> usize
 // The last `places` digits of a number, or all where it has fewer.
 fn put_digits(out: &mut [u8], at: usize, n: u64, places: usize) -> usize
     requires { ⌜ at + places ≤ length (now out) ⌝ }
-    ensures { λ r. ⌜ Put (now (out .entry)) at (digits places n) (now (out .exit)) r ⌝ }
+    ensures { λ r. ⌜ Stored (now (out .entry)) at (digits places n) (now (out .exit)) r ⌝ }
     ensures { λ r. ⌜ r ≤ at + places ⌝ }
 {
     if places == 0 {
@@ -53,7 +43,7 @@ fn put_digits(out: &mut [u8], at: usize, n: u64, places: usize) -> usize
 
 fn put_decimal(out: &mut [u8], at: usize, n: u64) -> usize
     requires { ⌜ at + 20 ≤ length (now out) ⌝ }
-    ensures { λ r. ⌜ Put (now (out .entry)) at (decimal n) (now (out .exit)) r ⌝ }
+    ensures { λ r. ⌜ Stored (now (out .entry)) at (decimal n) (now (out .exit)) r ⌝ }
     ensures { λ r. ⌜ r ≤ at + 20 ⌝ }
 {
     put_digits(out, at, n, 20)
@@ -73,67 +63,89 @@ fn magnitude(v: i64) -> u64
 
 fn put_signed(out: &mut [u8], at: usize, v: i64) -> usize
     requires { ⌜ at + 21 ≤ length (now out) ⌝ }
-    ensures { λ r. ⌜ Put (now (out .entry)) at (signed v) (now (out .exit)) r ⌝ }
+    ensures { λ r. ⌜ Stored (now (out .entry)) at (signed v) (now (out .exit)) r ⌝ }
     ensures { λ r. ⌜ r ≤ at + 21 ⌝ }
 {
     if v < 0 {
-        let end = put_bytes(out, at, b"-");
+        let end = buffer::put_bytes(out, at, b"-");
         put_decimal(out, end, magnitude(v))
     } else {
         put_decimal(out, at, magnitude(v))
     }
 }
 
+// A signed number after its label.
+fn put_value(out: &mut [u8], at: usize, label: &[u8], v: i64) -> usize
+    requires { ⌜ at + length (now label) + 21 ≤ length (now out) ⌝ }
+    ensures { λ r. ⌜ Stored (now (out .entry)) at (now (label .entry) ++ signed v) (now (out .exit)) r ⌝ }
+    ensures { λ r. ⌜ r ≤ at + length (now (label .entry)) + 21 ⌝ }
+{
+    let end = buffer::put_bytes(out, at, label);
+    put_signed(out, end, v)
+}
+
+// A natural number after its label.
+fn put_number(out: &mut [u8], at: usize, label: &[u8], n: u64) -> usize
+    requires { ⌜ at + length (now label) + 20 ≤ length (now out) ⌝ }
+    ensures { λ r. ⌜ Stored (now (out .entry)) at (now (label .entry) ++ decimal n) (now (out .exit)) r ⌝ }
+    ensures { λ r. ⌜ r ≤ at + length (now (label .entry)) + 20 ⌝ }
+{
+    let end = buffer::put_bytes(out, at, label);
+    put_decimal(out, end, n)
+}
+
 // A live kind's line, in N·U.
 fn put_traffic(out: &mut [u8], at: usize, name: &[u8], t: Traffic) -> usize
     requires { ⌜ at + length (now name) + 60 ≤ length (now out) ⌝ }
-    ensures { λ r. ⌜ Put (now (out .entry)) at (trafficLine (now (name .entry)) t) (now (out .exit)) r ⌝ }
+    ensures { λ r. ⌜ Stored (now (out .entry)) at (trafficLine (now (name .entry)) t) (now (out .exit)) r ⌝ }
     ensures { λ r. ⌜ r ≤ at + length (now (name .entry)) + 60 ⌝ }
 {
     let g = t.greatest;
     let l = t.least;
-    let mut end = put_bytes(out, at, name);
-    end = put_bytes(out, end, b" greatest ");
-    end = put_signed(out, end, g.value);
-    end = put_bytes(out, end, b" least ");
-    end = put_signed(out, end, l.value);
-    put_bytes(out, end, b"\n")
+    let mut end = buffer::put_bytes(out, at, name);
+    end = put_value(out, end, b" greatest ", g.value);
+    end = put_value(out, end, b" least ", l.value);
+    buffer::put_bytes(out, end, b"\n")
 }
 
-// A value with its row, in thousandths of N·U.
-fn put_governing(out: &mut [u8], at: usize, g: Governing) -> usize
-    requires { ⌜ at + 46 ≤ length (now out) ⌝ }
-    ensures { λ r. ⌜ Put (now (out .entry)) at (governing g) (now (out .exit)) r ⌝ }
-    ensures { λ r. ⌜ r ≤ at + 46 ⌝ }
+// A value with its row after a label, in thousandths of N·U.
+fn put_governing(out: &mut [u8], at: usize, label: &[u8], g: Governing) -> usize
+    requires { ⌜ at + length (now label) + 46 ≤ length (now out) ⌝ }
+    ensures { λ r. ⌜ Stored (now (out .entry)) at (now (label .entry) ++ governingText g) (now (out .exit)) r ⌝ }
+    ensures { λ r. ⌜ r ≤ at + length (now (label .entry)) + 46 ⌝ }
 {
-    let mut end = put_signed(out, at, g.value);
-    end = put_bytes(out, end, b" row ");
-    put_decimal(out, end, g.row as u64)
+    let end = put_value(out, at, label, g.value);
+    put_number(out, end, b" row ", g.row as u64)
+}
+
+// A reported limit state's greatest and least.
+fn put_reported(out: &mut [u8], at: usize, greatest: Governing, least: Governing) -> usize
+    requires { ⌜ at + 110 ≤ length (now out) ⌝ }
+    ensures { λ r. ⌜ Stored (now (out .entry)) at (report (governingText greatest) (governingText least)) (now (out .exit)) r ⌝ }
+    ensures { λ r. ⌜ r ≤ at + 110 ⌝ }
+{
+    let mut end = put_governing(out, at, b" greatest ", greatest);
+    end = put_governing(out, end, b" least ", least);
+    buffer::put_bytes(out, end, b"\n")
 }
 
 // A limit state's line.
 fn put_state(out: &mut [u8], at: usize, name: &[u8], s: State) -> usize
     requires { ⌜ at + length (now name) + 110 ≤ length (now out) ⌝ }
-    ensures { λ r. ⌜ Put (now (out .entry)) at (stateLine (now (name .entry)) s) (now (out .exit)) r ⌝ }
+    ensures { λ r. ⌜ Stored (now (out .entry)) at (stateLine (now (name .entry)) s) (now (out .exit)) r ⌝ }
     ensures { λ r. ⌜ r ≤ at + length (now (name .entry)) + 110 ⌝ }
 {
-    let mut end = put_bytes(out, at, name);
+    let end = buffer::put_bytes(out, at, name);
     match s {
-        State::Absent => put_bytes(out, end, b" none\n"),
-        State::Reported { greatest, least } => {
-            end = put_bytes(out, end, b" greatest ");
-            end = put_governing(out, end, greatest);
-            end = put_bytes(out, end, b" least ");
-            end = put_governing(out, end, least);
-            put_bytes(out, end, b"\n")
-        }
+        State::Absent => buffer::put_bytes(out, end, b" none\n"),
+        State::Reported { greatest, least } => put_reported(out, end, greatest, least),
     }
 }
 
 // The four lines of an accepted job.
 fn put_account(out: &mut [u8], a: Account) -> usize
     requires { ⌜ 384 ≤ length (now out) ⌝ }
-    ensures { λ r. ⌜ Put (now (out .entry)) 0 (accountText a) (now (out .exit)) r ⌝ }
+    ensures { λ r. ⌜ Stored (now (out .entry)) 0 (accountText a) (now (out .exit)) r ⌝ }
     ensures { λ r. ⌜ r ≤ 384 ⌝ }
 {
     let normal = a.normal;
@@ -149,14 +161,12 @@ fn put_account(out: &mut [u8], a: Account) -> usize
 // The line of a refused job.
 fn put_refusal(out: &mut [u8], number: u32, place: usize) -> usize
     requires { ⌜ 384 ≤ length (now out) ⌝ }
-    ensures { λ r. ⌜ Put (now (out .entry)) 0 (refusalLine number place) (now (out .exit)) r ⌝ }
+    ensures { λ r. ⌜ Stored (now (out .entry)) 0 (refusalLine number place) (now (out .exit)) r ⌝ }
     ensures { λ r. ⌜ r ≤ 384 ⌝ }
 {
-    let mut end = put_bytes(out, 0, b"refused ");
-    end = put_decimal(out, end, number as u64);
-    end = put_bytes(out, end, b" at ");
-    end = put_decimal(out, end, place as u64);
-    put_bytes(out, end, b"\n")
+    let mut end = put_number(out, 0, b"refused ", number as u64);
+    end = put_number(out, end, b" at ", place as u64);
+    buffer::put_bytes(out, end, b"\n")
 }
 
 // Puts an answer's text at the start of a buffer, leaves the rest of it as it was, and answers the text's length. The first clause serves a caller that lends `&out[..r]`.

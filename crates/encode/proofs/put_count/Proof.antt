@@ -15,7 +15,7 @@ returns : tie.Need-returns
 returns c =
     let p = c .before .before in
     let s = p .before .before .before in
-    one (pos (s .args .x)) (record { sfits = s .pre .1 }) refl (p .put-bits .ensures .0) (p .put-bits .ensures .1)
+    one (pos (s .args .x)) (record { sfits = s .pre .1 }) refl (p .put-bits .ensures)
 
 pub put-count-spec : {M : Type 1} → statement M
 put-count-spec = tie.close (tie.spec put-bits-requires same-length returns)

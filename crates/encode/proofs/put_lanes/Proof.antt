@@ -7,13 +7,14 @@ use borrow.Author.Needs.{needs}
 use Rattle.model.specs.declared.Lane.{Lane}
 use Rattle.model.specs.declared.Placement.{Placement}
 use Rattle.model.specs.Answered.{laneAt}
-use Rattle.encode.specs.Encoding.{laneNumbers, lanesNumbers, Stored}
-use Rattle.encode.proofs.Stores.{nothing, and-then, kept, retold}
+use Rattle.encode.specs.Encoding.{laneNumbers, lanesNumbers, Written}
+use Rattle.encode.proofs.Stores.{nothing, and-then, retold}
+use Rattle.buffer.proofs.Stores.{kept}
 use Rattle.encode.proofs.put_lanes.Statement.{statement}
 use Rattle.encode.proofs.put_lanes.Tie as tie
 
 abbrev Inv-loop : tie.InvT-loop
-Inv-loop out₀ at p end₀ i₀ out end i = (i ≤ 5) × Stored out₀ at (lanesNumbers p i) out end
+Inv-loop out₀ at p end₀ i₀ out end i = (i ≤ 5) × Written out₀ at (lanesNumbers p i) out end
 
 abbrev μ-loop : tie.MeasureT-loop
 μ-loop out₀ at p end₀ i₀ out end i = 5 - i
@@ -36,7 +37,7 @@ put-lane-requires : tie.Need-put-lane-requires Inv-loop μ-loop
 put-lane-requires c κs =
     let l = c .before .before .before in
     let s = l .before .before in
-    let e = kept (l .loop .inv .1) in
+    let e = kept (l .loop .inv .1 .bytes) in
     let n = three-a-lane (s .args .t3) (l .loop .i) in
     (omega (arith, l .loop .inv .1 .ends), s .pre .1 (l .loop .i))
 
@@ -54,7 +55,7 @@ loop-again c =
     (omega arith, retold (sym (ap (lanesNumbers (s .args .t3)) (add-one (l .i)))) (and-then (l .inv .1) (p .put-lane .ensures)))
 
 same-length : tie.Need-same-length Inv-loop μ-loop
-same-length c = kept (c .before .loop .inv .1)
+same-length c = kept (c .before .loop .inv .1 .bytes)
 
 returns : tie.Need-returns Inv-loop μ-loop
 returns c =

@@ -21,7 +21,7 @@ returns c =
     let p = c .before .before in
     let s = p .before .before .before .before in
     let bits = p .before .bits-of .ensures ∙ ap (ofZ w64) (toZ-ofZ (s .fits .v)) in
-    one (s .args .v) (s .fits .v) bits (p .put-bits .ensures .0) (p .put-bits .ensures .1)
+    one (s .args .v) (s .fits .v) bits (p .put-bits .ensures)
 
 pub put-signed-spec : {M : Type 1} → statement M
 put-signed-spec = tie.close (tie.spec bits-of-requires put-bits-requires same-length returns)

@@ -4,7 +4,8 @@ use Prim.Native.Nat.{ℕ}
 use native.Mathlib.Omega.{arith}
 use lib.ListN.{drop, length-append}
 use Rattle.encode.specs.Encoding.{accountSize, limitNumbers, accountBytes, ReadBack}
-use Rattle.encode.proofs.Stores.{and-then, from-start}
+use Rattle.encode.proofs.Stores.{and-then}
+use Rattle.buffer.proofs.Stores.{from-start}
 use Rattle.encode.proofs.Reading.{limit-length, account-count, account-read}
 use borrow.Author.Needs.{needs}
 use Rattle.encode.proofs.write.Statement.{statement}
@@ -48,7 +49,7 @@ returns c =
     let placements = and-then (and-then (p1 .put-traffic .ensures) (p2 .put-placements .ensures)) (p3 .put-placements2 .ensures) in
     let whole = and-then (and-then placements (p4 .put-states .ensures)) (p5 .put-counts .ensures) in
     let size : p5 .put-counts .result ≡ accountSize = omega (arith, whole .ends, account-count a) in
-    let is = subst (λ (n : ℕ). p5 .put-counts .last .0 ≡ accountBytes a ++ drop n (s .args .out .now)) size (from-start whole (omega (arith, size, s .pre .0))) in
+    let is = subst (λ (n : ℕ). p5 .put-counts .last .0 ≡ accountBytes a ++ drop n (s .args .out .now)) size (from-start (whole .bytes) (omega (arith, size, s .pre .0))) in
     (is, subst (λ (l : List ℕ). ReadBack l a) (sym is) (account-read a _ (whole .fit)))
 
 pub write-spec : {M : Type 1} → statement M

@@ -21,7 +21,7 @@ use Rattle.model.proofs.Verdict.{clear, has-header, job-refuses, short-refused,
 use Rattle.job.specs.declared.refusals.Ruling.{Ruling}
 use Rattle.line.specs.LineFits.{LineFits}
 use Rattle.line.proofs.Fitting.{fits-fewer}
-use Rattle.kernel.specs.Parts.{Ready, PartsRight}
+use Rattle.kernel.specs.AccountParts.{Ready, PartsRight}
 use Rattle.kernel.proofs.Fits.{sized, line-fits, signed, spaced}
 use Rattle.kernel.proofs.Right.{account-right}
 use borrow.Author.Needs.{needs}

@@ -5,7 +5,7 @@ use native.Mathlib.Omega.{arith}
 use borrow.Author.Needs.{needs}
 use borrow.Fn.Kinds.{In}
 use borrow.Fn.PlainCycle.{Measures, is, falls, and}
-use Rattle.print.proofs.Texts.{nothing, and-then, retold}
+use Rattle.buffer.proofs.Stores.{nothing, and-then, retold}
 use Rattle.print.proofs.Digits.{digits-none, digits-one, digits-more}
 use Rattle.print.proofs.put_digits.Reads as put-digits
 use Rattle.print.proofs.put_digits.Kinds as put-digits-kinds
@@ -33,7 +33,7 @@ put-digits-returns : (t : ℕ) → put-digits-lts.Need-returns (
 ) (put-digits-at t) put-digits.Post
 put-digits-returns t c =
     let s = c .before .before in
-    (retold (digits-none _ (s .args .n) (c .if1 .taken)) (nothing _ _), omega arith)
+    (retold (digits-none _ (s .args .n) (c .if1 .taken)) (nothing _), omega arith)
 
 put-digits-put-digit-requires : (t : ℕ) → put-digits-lts.Need-put-digit-requires (
   put-digit-reads.Asked,

@@ -1,5 +1,5 @@
 use native.Mathlib.Omega.{arith}
-use Rattle.print.proofs.Texts.{and-then}
+use Rattle.buffer.proofs.Stores.{and-then}
 use borrow.Author.Needs.{needs}
 use Rattle.print.proofs.put_account.Statement.{statement}
 use Rattle.print.proofs.put_account.Tie as tie

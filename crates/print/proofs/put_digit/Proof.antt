@@ -1,6 +1,5 @@
-use native.Mathlib.Omega.{arith}
 use borrow.Author.Needs.{needs}
-use Rattle.print.proofs.Texts.{byte}
+use Rattle.buffer.proofs.Stores.{byte}
 use Rattle.print.proofs.put_digit.Statement.{statement}
 use Rattle.print.proofs.put_digit.Tie as tie
 
@@ -20,7 +19,7 @@ same-length : tie.Need-same-length
 same-length c = search needs
 
 returns : tie.Need-returns
-returns c = byte _ _ _ (omega arith)
+returns c = byte
 
 pub put-digit-spec : {M : Type 1} → statement M
 put-digit-spec =

@@ -1,44 +1,42 @@
+use mathlib.Core.List.{append-assoc}
 use native.Mathlib.Omega.{arith}
 use mir.Syntax.{w64}
 use mir.Val.{SFits}
-use Rattle.print.proofs.Texts.{and-then}
+use Rattle.buffer.proofs.Stores.{and-then, retold}
 use Rattle.print.proofs.Signs.{signed-kept}
 use borrow.Author.Needs.{needs}
 use Rattle.print.proofs.put_governing.Statement.{statement}
 use Rattle.print.proofs.put_governing.Tie as tie
 
-put-signed-requires : tie.Need-put-signed-requires
-put-signed-requires c κs = search needs
+put-value-requires : tie.Need-put-value-requires
+put-value-requires c κs = search needs
 
-slice-aggregate-put-bytes : tie.Need-slice-aggregate-put-bytes
-slice-aggregate-put-bytes c = search needs
+slice-aggregate-put-number : tie.Need-slice-aggregate-put-number
+slice-aggregate-put-number c = search needs
 
-put-bytes-requires : tie.Need-put-bytes-requires
-put-bytes-requires c κs = search needs
-
-put-decimal-requires : tie.Need-put-decimal-requires
-put-decimal-requires c κs = search needs
+put-number-requires : tie.Need-put-number-requires
+put-number-requires c κs = search needs
 
 same-length : tie.Need-same-length
 same-length c = search needs
 
 returns : tie.Need-returns
 returns c =
-    let p3 = c .before .before in
-    let p2 = p3 .before .before .before .before in
+    let p2 = c .before .before in
     let p1 = p2 .before .before .before .before .before in
-    let f : SFits w64 (p1 .before .before .before .before .args .g .value) = search needs in (
-      and-then (and-then (signed-kept f (p1 .put-signed .ensures .0)) (p2 .put-bytes .ensures)) (p3 .put-decimal .ensures .0),
-      omega (arith, p1 .put-signed .ensures .1, p2 .put-bytes .ensures .long, p3 .put-decimal .ensures .1),
+    let s = p1 .before .before .before .before .before in
+    let label = s .args .label .now in
+    let f : SFits w64 (s .args .g .value) = search needs in (
+      retold (append-assoc label _ _) (and-then (signed-kept label f (p1 .put-value .ensures .0)) (p2 .put-number .ensures .0)),
+      omega (arith, p1 .put-value .ensures .1, p2 .put-number .ensures .1),
     )
 
 pub put-governing-spec : {M : Type 1} → statement M
 put-governing-spec =
     tie.close
     (tie.spec
-    put-signed-requires
-    slice-aggregate-put-bytes
-    put-bytes-requires
-    put-decimal-requires
+    put-value-requires
+    slice-aggregate-put-number
+    put-number-requires
     same-length
     returns)

@@ -2,7 +2,7 @@ use mathlib.Core.Path.{ap, _∙_}
 use native.Mathlib.Omega.{arith}
 use mir.Facts.{toZ-ofZ}
 use Rattle.print.specs.Text.{decimal, signed}
-use Rattle.print.proofs.Texts.{and-then, retold}
+use Rattle.buffer.proofs.Stores.{and-then, retold}
 use Rattle.print.proofs.Signs.{signed-below, signed-above}
 use borrow.Author.Needs.{needs}
 use Rattle.print.proofs.put_signed.Statement.{statement}
@@ -36,7 +36,7 @@ returns c =
     let s = p1 .before .before .before .before .before in
     let number = retold (ap decimal (p2 .before .magnitude .ensures)) (p2 .put-decimal .ensures .0) in
     let e = signed-below _ (p1 .before .before .before .if1 .taken) ∙ ap signed (toZ-ofZ (s .fits .v)) in
-    (retold e (and-then (p1 .put-bytes .ensures) number), omega (arith, p1 .put-bytes .ensures .long, p2 .put-decimal .ensures .1))
+    (retold e (and-then (p1 .put-bytes .ensures) number), omega (arith, p1 .put-bytes .ensures .ends, p2 .put-decimal .ensures .1))
 
 same-length-2 : tie.Need-same-length-2
 same-length-2 c = search needs

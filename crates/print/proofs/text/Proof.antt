@@ -1,5 +1,6 @@
 use native.Mathlib.Omega.{arith}
-use Rattle.print.proofs.Texts.{retold, from-start, refused, accepted}
+use Rattle.buffer.proofs.Stores.{retold}
+use Rattle.print.proofs.Texts.{at-start, refused, accepted}
 use borrow.Author.Needs.{needs}
 use Rattle.print.proofs.text.Statement.{statement}
 use Rattle.print.proofs.text.Tie as tie
@@ -10,7 +11,7 @@ put-refusal-requires c κs = search needs
 returns : tie.Need-returns
 returns c =
     let a = c .before .before .before .before .args .a in
-    from-start (retold (refused a (c .before .before .if1 .taken)) (c .put-refusal .ensures .0)) (omega arith)
+    at-start (retold (refused a (c .before .before .if1 .taken)) (c .put-refusal .ensures .0)) (omega arith)
 
 put-account-requires : tie.Need-put-account-requires
 put-account-requires c κs = search needs
@@ -18,7 +19,7 @@ put-account-requires c κs = search needs
 returns-2 : tie.Need-returns-2
 returns-2 c =
     let a = c .before .before .before .before .before .args .a in
-    from-start (retold (accepted a (c .before .before .before .if1 .left)) (c .put-account .ensures .0)) (omega arith)
+    at-start (retold (accepted a (c .before .before .before .if1 .left)) (c .put-account .ensures .0)) (omega arith)
 
 pub text-spec : {M : Type 1} → statement M
 text-spec = tie.close (tie.spec put-refusal-requires returns put-account-requires returns-2)

@@ -1,0 +1,69 @@
+use mathlib.Core.Path.{_≡_, refl, sym, ap, _∙_}
+use Prim.Native.Nat.{ℕ, _+_, _-_, _≤_}
+use native.Mathlib.Omega.{arith}
+use native.Mathlib.Numerals.{add-one}
+use mathlib.Core.List.{_∷_}
+use lib.ListN.{getD, drop, drop-of-length-le}
+use lib.Seq.{drop-cons}
+use Rattle.buffer.proofs.Left.{Left, all-left, one-less, none-left}
+use Rattle.buffer.proofs.put_bytes.Statement.{statement}
+use Rattle.buffer.proofs.put_bytes.Tie as tie
+
+abbrev Inv-loop : tie.InvT-loop
+Inv-loop out₀ at bytes i₀ i-end out i = (i ≤ i-end) × Left out₀ at bytes out (at + i) (drop i bytes)
+
+abbrev μ-loop : tie.MeasureT-loop
+μ-loop out₀ at bytes i₀ i-end out i = i-end - i
+
+loop-holds : tie.Need-loop-holds Inv-loop μ-loop
+loop-holds c = (omega arith, all-left (omega arith) refl)
+
+shared-slice-read-out : tie.Need-shared-slice-read-out Inv-loop μ-loop
+shared-slice-read-out c = omega arith
+
+add-out : tie.Need-add-out Inv-loop μ-loop
+add-out c = omega arith
+
+slice-write-out : tie.Need-slice-write-out Inv-loop μ-loop
+slice-write-out c = omega (arith, c .before .before .loop .inv .1 .size)
+
+add-i : tie.Need-add-i Inv-loop μ-loop
+add-i c = omega arith
+
+loop-less : tie.Need-loop-less Inv-loop μ-loop
+loop-less c = omega arith
+
+loop-again : tie.Need-loop-again Inv-loop μ-loop
+loop-again c =
+    let l = c .before .before .loop in
+    let bytes = c .before .before .before .args .bytes .now in
+    let e = drop-cons bytes (l .i) 0 (omega arith) ∙ ap (λ (k : ℕ). getD bytes (l .i) 0 ∷ drop k bytes) (sym (add-one (l .i))) in
+    (omega arith, one-less e (omega arith) (l .inv .1))
+
+add-result : tie.Need-add-result Inv-loop μ-loop
+add-result c = omega arith
+
+same-length : tie.Need-same-length Inv-loop μ-loop
+same-length c = c .before .loop .inv .1 .size
+
+returns : tie.Need-returns Inv-loop μ-loop
+returns c =
+    let l = c .before .loop in
+    none-left (drop-of-length-le (c .before .before .args .bytes .now) {i = l .i} (omega arith)) (omega arith) (l .inv .1)
+
+pub put-bytes-spec : {M : Type 1} → statement M
+put-bytes-spec =
+    tie.close
+    (tie.spec
+    Inv-loop
+    μ-loop
+    loop-holds
+    shared-slice-read-out
+    add-out
+    slice-write-out
+    add-i
+    loop-less
+    loop-again
+    add-result
+    same-length
+    returns)

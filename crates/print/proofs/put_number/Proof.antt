@@ -1,0 +1,23 @@
+use native.Mathlib.Omega.{arith}
+use Rattle.buffer.proofs.Stores.{and-then}
+use borrow.Author.Needs.{needs}
+use Rattle.print.proofs.put_number.Statement.{statement}
+use Rattle.print.proofs.put_number.Tie as tie
+
+put-bytes-requires : tie.Need-put-bytes-requires
+put-bytes-requires c κs = search needs
+
+put-decimal-requires : tie.Need-put-decimal-requires
+put-decimal-requires c κs = search needs
+
+same-length : tie.Need-same-length
+same-length c = search needs
+
+returns : tie.Need-returns
+returns c =
+    let p2 = c .before .before in
+    let p1 = p2 .before .before .before .before in
+    (and-then (p1 .put-bytes .ensures) (p2 .put-decimal .ensures .0), omega (arith, p1 .put-bytes .ensures .ends, p2 .put-decimal .ensures .1))
+
+pub put-number-spec : {M : Type 1} → statement M
+put-number-spec = tie.close (tie.spec put-bytes-requires put-decimal-requires same-length returns)

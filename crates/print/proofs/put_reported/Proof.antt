@@ -1,0 +1,48 @@
+use native.Mathlib.Omega.{arith}
+use Rattle.buffer.proofs.Stores.{and-then}
+use borrow.Author.Needs.{needs}
+use Rattle.print.proofs.put_reported.Statement.{statement}
+use Rattle.print.proofs.put_reported.Tie as tie
+
+slice-aggregate-put-governing : tie.Need-slice-aggregate-put-governing
+slice-aggregate-put-governing c = search needs
+
+put-governing-requires : tie.Need-put-governing-requires
+put-governing-requires c κs = search needs
+
+slice-aggregate-put-governing-2 : tie.Need-slice-aggregate-put-governing-2
+slice-aggregate-put-governing-2 c = search needs
+
+put-governing-requires-2 : tie.Need-put-governing-requires-2
+put-governing-requires-2 c κs = search needs
+
+slice-aggregate-put-bytes : tie.Need-slice-aggregate-put-bytes
+slice-aggregate-put-bytes c = search needs
+
+put-bytes-requires : tie.Need-put-bytes-requires
+put-bytes-requires c κs = search needs
+
+same-length : tie.Need-same-length
+same-length c = search needs
+
+returns : tie.Need-returns
+returns c =
+    let p3 = c .before .before in
+    let p2 = p3 .before .before .before .before .before in
+    let p1 = p2 .before .before .before .before .before in (
+      and-then (and-then (p1 .put-governing .ensures .0) (p2 .put-governing2 .ensures .0)) (p3 .put-bytes .ensures),
+      omega (arith, p1 .put-governing .ensures .1, p2 .put-governing2 .ensures .1, p3 .put-bytes .ensures .ends),
+    )
+
+pub put-reported-spec : {M : Type 1} → statement M
+put-reported-spec =
+    tie.close
+    (tie.spec
+    slice-aggregate-put-governing
+    put-governing-requires
+    slice-aggregate-put-governing-2
+    put-governing-requires-2
+    slice-aggregate-put-bytes
+    put-bytes-requires
+    same-length
+    returns)
