@@ -61,19 +61,16 @@ module _ (b : List ℕ) {head : Header} (z : Sized b head) where
   records-long : length (sectionOf b Records) ≡ 12 * headerOf b .records
   records-long = let e = part-length z Records in omega arith
 
-  pub section-long : {records : List ℕ} {n : ℕ} → records ≡ sectionOf b Records → n ≡ headerOf b .records → length records ≡ 12 * n
-  section-long e k = omega (arith, ap length e, records-long, k)
-
   module _ (clear : fault6 b ≡ none) where
     next-most : (c : ℕ) → 1 ≤ c → c ≤ headerOf b .records → nextRecord (sectionOf b Records) c ≤ headerOf b .records
     next-most c l h = record-fits b clear (c - 1) (omega arith) .next .most
 
     -- every next is a record or 0
-    pub linked : Linked (sectionOf b Records)
+    linked : Linked (sectionOf b Records)
     linked c l h = omega (arith, records-long, next-most c l (omega (arith, records-long)))
 
     -- every effect is one of 16
-    pub effects-few : EffectsTo 16 (sectionOf b Records)
+    effects-few : EffectsTo 16 (sectionOf b Records)
     effects-few c l h =
         let e = record-fits b clear (c - 1) (omega (arith, records-long)) .effect .most in
         omega (arith, e, header-fits b (z .within) .effects .most)
@@ -92,6 +89,9 @@ module _ (b : List ℕ) {head : Header} (z : Sized b head) where
         once : (i : ℕ) → i < headerOf b .rows → chainNamesTwice b (i + 1) ≡ false
         once i h = not-true _ (first-fits (rowTests (headerOf b .rows) (chainPasses Repeat b)) (sectionOf b Rows) (moved-none _ _ e) i h (omega arith))
 
-    -- the record section holds row i's first record, as the code has both and the count
-    pub first-held : (i : ℕ) → i < headerOf b .rows → {records : List ℕ} {f n : ℕ} → records ≡ sectionOf b Records → f ≡ firstRecord (sectionOf b Rows) (i + 1) → n ≡ headerOf b .records → 12 * f ≤ length records
-    first-held i h e g k = omega (arith, section-long e k, k, g, first-most i h)
+    -- what the code requires of row i's chain
+    pub chain-there : (i : ℕ) → i < headerOf b .rows → {records : List ℕ} {f n : ℕ} → records ≡ sectionOf b Records → f ≡ firstRecord (sectionOf b Rows) (i + 1) → n ≡ headerOf b .records →
+        Linked records × EffectsTo 16 records × (12 * f ≤ length records) × (length records ≡ 12 * n)
+    chain-there i h e g k =
+        let long = ap length e ∙ records-long in
+        (subst Linked (sym e) linked, subst (EffectsTo 16) (sym e) effects-few, omega (arith, long, g, first-most i h), omega (arith, long, k))

@@ -77,10 +77,6 @@ module _ {b : List ℕ} {head : Header} {number : ℕ} (passed : Passed b head n
   unfolding jobTests
   clear3 h = passed .clear 3 (omega arith) h
 
-  pub clear6 : 6 < number → fault6 b ≡ none
-  unfolding jobTests
-  clear6 h = passed .clear 6 (omega arith) h
-
   pub header-there : 40 ≤ length b
   header-there = has-header b clear1
 
@@ -89,6 +85,11 @@ module _ {b : List ℕ} {head : Header} {number : ℕ} (passed : Passed b head n
 
   pub sized-there : 3 < number → Sized b head
   sized-there h = is-sized b (passed .own) clear1 (clear2 (omega arith)) (clear3 h)
+
+  -- and from 7 on, table words within their limits
+  pub table-there : 6 < number → Sized b head × (fault6 b ≡ none)
+  unfolding jobTests
+  table-there h = (sized-there (omega arith), passed .clear 6 (omega arith) h)
 
   -- where it finds a place it refuses
   pub refuses : number ≤ 8 → (p : ℕ) → testOf b number .found ≡ some p → jobVerdict b ≡ some (record { number = number; place = p })

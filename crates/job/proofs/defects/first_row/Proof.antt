@@ -1,4 +1,4 @@
-use mathlib.Core.Path.{_≡_, refl, sym, ap, subst}
+use mathlib.Core.Path.{_≡_, refl, sym, ap}
 use mathlib.Core.Bool.{Bool, not}
 use mathlib.Core.Option.{none, some}
 use mathlib.Core.List.{List}
@@ -14,11 +14,10 @@ use Rattle.model.specs.Decode.{firstRecord}
 use Rattle.model.specs.Refusals.{rowTests}
 use Rattle.model.specs.declared.Header.{Header}
 use Rattle.model.specs.declared.Part.the-variants.{Rows}
-use Rattle.chains.specs.Linked.{Linked, EffectsTo}
 use Rattle.job.specs.Defects.{chainPasses}
 use Rattle.job.proofs.Scans.{Searched, search-begins, search-goes-on, search-found, search-over}
 use Rattle.job.proofs.Sizes.{part-length}
-use Rattle.job.proofs.Linked.{linked, effects-few, first-is, section-long, first-held, passes}
+use Rattle.job.proofs.Linked.{first-is, passes, chain-there}
 use Rattle.job.proofs.defects.first_row.Statement.{statement}
 use Rattle.job.proofs.defects.first_row.Tie as tie
 
@@ -68,13 +67,7 @@ first c = let d = c .before in first-is (b d) (i d) (d .before .before .before .
 is-defective-requires : tie.Need-is-defective-requires Inv-loop μ-loop
 is-defective-requires c κs =
     let d = c .before in
-    let p = st d .pre in
-    let e = d .before .before .section2 .ensures in (
-      subst Linked (sym e) (linked (b d) (p .0) (p .1)),
-      subst (EffectsTo 16) (sym e) (effects-few (b d) (p .0) (p .1)),
-      first-held (b d) (p .0) (p .1) (i d) (here d) e (first c) (count d),
-      section-long (b d) (p .0) e (count d),
-    )
+    chain-there (b d) (st d .pre .0) (st d .pre .1) (i d) (here d) (d .before .before .section2 .ensures) (first c) (count d)
 
 -- the call's answer is row i's
 found : (c : tie.After-is-defective Inv-loop μ-loop) {t : Bool} → c .is-defective .result ≡ t → itemMisfit (rowTests (headerOf (b (c .before .before)) .rows) (chainPasses (st (c .before .before) .args .defect) (b (c .before .before))) .fields) (sectionOf (b (c .before .before)) Rows) (i (c .before .before)) ≡ (if t then some (4 * i (c .before .before)) else none)
