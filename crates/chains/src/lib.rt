@@ -4,20 +4,22 @@ ghost use Prim.Native.Nat.{_+_, _-_, _*_, _≤_, _<_};
 ghost use lib.ListN.{length};
 ghost use lib.Dec.{eqb};
 ghost use Rattle.model.specs.Words.{countAt};
+ghost use Rattle.model.specs.Format.{size, bytes};
+ghost use Rattle.model.specs.declared.Part.the-variants.{Records};
 ghost use Rattle.model.specs.Chains.{recordEffect, recordFactor, nextRecord, walk, namesTwice};
 ghost use Rattle.chains.specs.Linked.{Linked, EffectsTo};
 
 // Record c's word j, from 0, as a count.
 fn word(records: &[u8], c: usize, j: usize) -> usize
-    requires { ⌜ (1 ≤ c) × (12 * c ≤ length (now records)) × (j < 3) ⌝ }
-    ensures { λ r. ⌜ (r ≡ countAt (now (records .entry)) (3 * (c - 1) + j)) × (r ≤ 2147483648) ⌝ }
+    requires { ⌜ (1 ≤ c) × (bytes Records * c ≤ length (now records)) × (j < size Records) ⌝ }
+    ensures { λ r. ⌜ (r ≡ countAt (now (records .entry)) (size Records * (c - 1) + j)) × (r ≤ 2147483648) ⌝ }
 {
-    words::count(records, 3 * (c - 1) + j)
+    words::count(records, model::RECORD_WORDS * (c - 1) + j)
 }
 
 // Record c's effect.
 pub fn effect(records: &[u8], c: usize) -> usize
-    requires { ⌜ (1 ≤ c) × (12 * c ≤ length (now records)) ⌝ }
+    requires { ⌜ (1 ≤ c) × (bytes Records * c ≤ length (now records)) ⌝ }
     ensures { λ r. ⌜ (r ≡ recordEffect (now (records .entry)) c) × (r ≤ 2147483648) ⌝ }
 {
     word(records, c, 0)
@@ -25,7 +27,7 @@ pub fn effect(records: &[u8], c: usize) -> usize
 
 // Record c's factor, in thousandths.
 pub fn factor(records: &[u8], c: usize) -> usize
-    requires { ⌜ (1 ≤ c) × (12 * c ≤ length (now records)) ⌝ }
+    requires { ⌜ (1 ≤ c) × (bytes Records * c ≤ length (now records)) ⌝ }
     ensures { λ r. ⌜ (r ≡ recordFactor (now (records .entry)) c) × (r ≤ 2147483648) ⌝ }
 {
     word(records, c, 1)
@@ -33,7 +35,7 @@ pub fn factor(records: &[u8], c: usize) -> usize
 
 // The record after c on its chain; 0 ends it.
 pub fn next(records: &[u8], c: usize) -> usize
-    requires { ⌜ (1 ≤ c) × (12 * c ≤ length (now records)) ⌝ }
+    requires { ⌜ (1 ≤ c) × (bytes Records * c ≤ length (now records)) ⌝ }
     ensures { λ r. ⌜ (r ≡ nextRecord (now (records .entry)) c) × (r ≤ 2147483648) ⌝ }
 {
     word(records, c, 2)
@@ -41,7 +43,7 @@ pub fn next(records: &[u8], c: usize) -> usize
 
 // The chain from c ends within so many visits.
 pub fn ends(records: &[u8], c: usize, left: usize) -> bool
-    requires { ⌜ Linked (now records) × (12 * c ≤ length (now records)) ⌝ }
+    requires { ⌜ Linked (now records) × (bytes Records * c ≤ length (now records)) ⌝ }
     ensures { λ r. ⌜ r ≡ eqb (walk (now (records .entry)) c left) 0 ⌝ }
 {
     if c == 0 {
@@ -55,7 +57,7 @@ pub fn ends(records: &[u8], c: usize, left: usize) -> bool
 
 // Some two records of the chain from c, in a section of so many, name the same effect; a chain that goes on after them all has come back to one.
 pub fn names_twice(records: &[u8], c: usize, count: usize) -> bool
-    requires { ⌜ Linked (now records) × EffectsTo 16 (now records) × (12 * c ≤ length (now records)) × (length (now records) ≡ 12 * count) ⌝ }
+    requires { ⌜ Linked (now records) × EffectsTo 16 (now records) × (bytes Records * c ≤ length (now records)) × (length (now records) ≡ bytes Records * count) ⌝ }
     ensures { λ r. ⌜ r ≡ namesTwice (now (records .entry)) count c ⌝ }
 {
     let mut seen = [false; 17];

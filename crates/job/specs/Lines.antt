@@ -7,6 +7,8 @@ use lib.IntN.{ℤ, negℤ}
 use lib.ListN.{length}
 use Rattle.exact.specs.Choice.{between}
 use Rattle.model.specs.Words.{wordAt}
+use Rattle.model.specs.Format.{size}
+use Rattle.model.specs.declared.Part.the-variants.{Line}
 use Rattle.model.specs.Refusals.{crosses}
 
 -- every word is from -m to m
@@ -15,4 +17,4 @@ AllWithin s m = (k : ℕ) → k < length s / 4 → between (negℤ m) m (wordAt 
 
 -- none of so many pieces has one ordinate above 0 and one below
 abbrev pub NoneCrosses : List ℕ → (pieces : ℕ) → Type 0
-NoneCrosses s pieces = (i : ℕ) → i < pieces → crosses (wordAt s (2 * i)) (wordAt s (2 * i + 1)) ≡ false
+NoneCrosses s pieces = (i : ℕ) → i < pieces → crosses (wordAt s (size Line * i)) (wordAt s (size Line * i + 1)) ≡ false

@@ -4,6 +4,8 @@ ghost use Prim.Native.Nat.{_*_, _≤_};
 ghost use mathlib.Core.Option.{none};
 ghost use lib.ListN.{length};
 ghost use Rattle.model.specs.Refusals.{fault6};
+ghost use Rattle.model.specs.Format.{bytes};
+ghost use Rattle.model.specs.declared.Part.the-variants.{Records};
 ghost use Rattle.chains.specs.Linked.{Linked, EffectsTo};
 ghost use Rattle.job.specs.Sized.{placeOf, Sized};
 ghost use Rattle.job.specs.Defects.{isDefective, firstDefective};
@@ -20,7 +22,7 @@ pub enum Defect {
 
 // The chain from a first record, in a section of so many, has the defect.
 fn is_defective(records: &[u8], first: usize, count: usize, defect: Defect) -> bool
-    requires { ⌜ Linked (now records) × EffectsTo 16 (now records) × (12 * first ≤ length (now records)) × (length (now records) ≡ 12 * count) ⌝ }
+    requires { ⌜ Linked (now records) × EffectsTo 16 (now records) × (bytes Records * first ≤ length (now records)) × (length (now records) ≡ bytes Records * count) ⌝ }
     ensures { λ r. ⌜ r ≡ isDefective defect (now (records .entry)) count first ⌝ }
 {
     match defect {
@@ -37,9 +39,9 @@ pub(crate) fn first_row(s: &[u8], head: Header, defect: Defect) -> Fault
     let rows = sections::section(s, head, Part::Rows);
     let records = sections::section(s, head, Part::Records);
     for i in 0..head.rows {
-        let first = words::count(rows, 4 * i + 3);
+        let first = words::count(rows, model::ROW_WORDS * i + 3);
         if is_defective(records, first, head.records, defect) {
-            return Fault::At(4 * i);
+            return Fault::At(model::ROW_WORDS * i);
         }
     }
     Fault::Clear

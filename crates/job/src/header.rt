@@ -2,12 +2,13 @@
 ghost use mathlib.Core.Path.{_≡_};
 ghost use Prim.Native.Nat.{_≤_};
 ghost use lib.ListN.{length};
-ghost use Rattle.model.specs.Format.{headerOf};
+ghost use Rattle.model.specs.Format.{headerOf, bytes};
+ghost use Rattle.model.specs.declared.Part.the-variants.{Head};
 use model::Edition;
 use model::Header;
 
 pub fn read(s: &[u8]) -> Header
-    requires { ⌜ 40 ≤ length (now s) ⌝ }
+    requires { ⌜ bytes Head ≤ length (now s) ⌝ }
     ensures { λ r. ⌜ r ≡ headerOf (now (s .entry)) ⌝ }
 {
     Header {

@@ -9,7 +9,7 @@ ghost use Rattle.exact.specs.Bounds.{Within};
 ghost use Rattle.exact.specs.Choice.{if_then_else_, between};
 ghost use Rattle.model.specs.Words.{wordAt};
 ghost use Rattle.model.specs.Fields.{range, oneOf, given, both, misfitFrom, itemFrom, misfit};
-ghost use Rattle.model.specs.Format.{is, reach, dynamicFits, format, words};
+ghost use Rattle.model.specs.Format.{is, reach, dynamicFits, format, size, bytes, words};
 ghost use Rattle.model.specs.declared.Part.the-variants.{Head, Line, Transverse, Effects, Rows, Records};
 ghost use Rattle.job.specs.Sized.{placeOf, Counted};
 use crate::sections;
@@ -58,7 +58,7 @@ fn field(j: usize, admitted: bool, later: Fault) -> Fault
 
 // h, in dm.
 fn length_fits(s: &[u8]) -> bool
-    requires { ⌜ 40 ≤ length (now s) ⌝ }
+    requires { ⌜ bytes Head ≤ length (now s) ⌝ }
     ensures { λ r. ⌜ r ≡ oneOf (1 ∷ 2 ∷ 5 ∷ 10 ∷ 25 ∷ 50 ∷ []) (itemFrom (now (s .entry)) 0 0) (wordAt (now (s .entry)) 1) ⌝ }
 {
     let h = words::word(s, 1);
@@ -85,7 +85,7 @@ fn length_fits(s: &[u8]) -> bool
 
 // N, and N times h at most 1000.
 fn pieces_fit(s: &[u8]) -> bool
-    requires { ⌜ 40 ≤ length (now s) ⌝ }
+    requires { ⌜ bytes Head ≤ length (now s) ⌝ }
     ensures { λ r. ⌜ r ≡ both (range 1 1000) (given 1 reach) (itemFrom (now (s .entry)) 0 0) (wordAt (now (s .entry)) 2) ⌝ }
 {
     if in_range(s, 2, 1, 1000) {
@@ -96,7 +96,7 @@ fn pieces_fit(s: &[u8]) -> bool
 
 // The dynamic value for its kind.
 fn dynamic_fits(s: &[u8]) -> bool
-    requires { ⌜ 40 ≤ length (now s) ⌝ }
+    requires { ⌜ bytes Head ≤ length (now s) ⌝ }
     ensures { λ r. ⌜ r ≡ dynamicFits (wordAt (now (s .entry)) 5) (wordAt (now (s .entry)) 6) ⌝ }
 {
     let kind = words::word(s, 5);
@@ -111,7 +111,7 @@ fn dynamic_fits(s: &[u8]) -> bool
 
 // The field at fault among the header's words 6 to 9: dynamic value, E, R, C.
 fn counts_misfit(s: &[u8], head: Header) -> Fault
-    requires { ⌜ 40 ≤ length (now s) ⌝ }
+    requires { ⌜ bytes Head ≤ length (now s) ⌝ }
     ensures { λ r. ⌜ placeOf r ≡ misfitFrom 6 (drop 6 (format head Head .fields)) (itemFrom (now (s .entry)) 0 0) ⌝ }
 {
     let records = field(9, in_range(s, 9, 0, 512), Fault::Clear);
@@ -122,7 +122,7 @@ fn counts_misfit(s: &[u8], head: Header) -> Fault
 
 // The header's field at fault; its edition is tested before.
 pub(crate) fn header_misfit(s: &[u8], head: Header) -> Fault
-    requires { ⌜ 40 ≤ length (now s) ⌝ }
+    requires { ⌜ bytes Head ≤ length (now s) ⌝ }
     ensures { λ r. ⌜ placeOf r ≡ misfitFrom 0 (format head Head .fields) (itemFrom (now (s .entry)) 0 0) ⌝ }
 {
     let counts = counts_misfit(s, head);
@@ -135,28 +135,28 @@ pub(crate) fn header_misfit(s: &[u8], head: Header) -> Fault
 
 // A piece: left and right ordinate.
 fn piece_misfit(s: &[u8], head: Header, i: usize) -> Fault
-    requires { ⌜ 8 * i + 8 ≤ length (now s) ⌝ }
-    ensures { λ r. ⌜ placeOf r ≡ misfitFrom 0 (format head Line .fields) (itemFrom (now (s .entry)) (2 * i) i) ⌝ }
+    requires { ⌜ bytes Line * i + bytes Line ≤ length (now s) ⌝ }
+    ensures { λ r. ⌜ placeOf r ≡ misfitFrom 0 (format head Line .fields) (itemFrom (now (s .entry)) (size Line * i) i) ⌝ }
 {
-    let p = 2 * i;
+    let p = model::PIECE_WORDS * i;
     let right = field(1, within(s, p + 1, 5000), Fault::Clear);
     field(0, within(s, p, 5000), right)
 }
 
 // A transverse ordinate.
 fn transverse_misfit(s: &[u8], head: Header, i: usize) -> Fault
-    requires { ⌜ 4 * i + 4 ≤ length (now s) ⌝ }
-    ensures { λ r. ⌜ placeOf r ≡ misfitFrom 0 (format head Transverse .fields) (itemFrom (now (s .entry)) (1 * i) i) ⌝ }
+    requires { ⌜ bytes Transverse * i + bytes Transverse ≤ length (now s) ⌝ }
+    ensures { λ r. ⌜ placeOf r ≡ misfitFrom 0 (format head Transverse .fields) (itemFrom (now (s .entry)) (size Transverse * i) i) ⌝ }
 {
     field(0, within(s, i, 1000), Fault::Clear)
 }
 
 // An effect: value, mark.
 fn effect_misfit(s: &[u8], head: Header, i: usize) -> Fault
-    requires { ⌜ 8 * i + 8 ≤ length (now s) ⌝ }
-    ensures { λ r. ⌜ placeOf r ≡ misfitFrom 0 (format head Effects .fields) (itemFrom (now (s .entry)) (2 * i) i) ⌝ }
+    requires { ⌜ bytes Effects * i + bytes Effects ≤ length (now s) ⌝ }
+    ensures { λ r. ⌜ placeOf r ≡ misfitFrom 0 (format head Effects .fields) (itemFrom (now (s .entry)) (size Effects * i) i) ⌝ }
 {
-    let p = 2 * i;
+    let p = model::EFFECT_WORDS * i;
     let mark = field(1, in_range(s, p + 1, 1, 2), Fault::Clear);
     field(0, within(s, p, 1000000000), mark)
 }
@@ -174,10 +174,10 @@ fn live_limit(s: &[u8], p: usize) -> usize
 
 // A row: limit state, live kind, live factor, first record.
 fn row_misfit(s: &[u8], head: Header, i: usize) -> Fault
-    requires { ⌜ 16 * i + 16 ≤ length (now s) ⌝ }
-    ensures { λ r. ⌜ placeOf r ≡ misfitFrom 0 (format head Rows .fields) (itemFrom (now (s .entry)) (4 * i) i) ⌝ }
+    requires { ⌜ bytes Rows * i + bytes Rows ≤ length (now s) ⌝ }
+    ensures { λ r. ⌜ placeOf r ≡ misfitFrom 0 (format head Rows .fields) (itemFrom (now (s .entry)) (size Rows * i) i) ⌝ }
 {
-    let p = 4 * i;
+    let p = model::ROW_WORDS * i;
     let first = field(3, in_range(s, p + 3, 0, head.records), Fault::Clear);
     let factor = field(2, in_range(s, p + 2, 0, live_limit(s, p + 1)), first);
     let live = field(1, in_range(s, p + 1, 0, 2), factor);
@@ -186,10 +186,10 @@ fn row_misfit(s: &[u8], head: Header, i: usize) -> Fault
 
 // A record: effect, factor, next record.
 fn record_misfit(s: &[u8], head: Header, i: usize) -> Fault
-    requires { ⌜ 12 * i + 12 ≤ length (now s) ⌝ }
-    ensures { λ r. ⌜ placeOf r ≡ misfitFrom 0 (format head Records .fields) (itemFrom (now (s .entry)) (3 * i) i) ⌝ }
+    requires { ⌜ bytes Records * i + bytes Records ≤ length (now s) ⌝ }
+    ensures { λ r. ⌜ placeOf r ≡ misfitFrom 0 (format head Records .fields) (itemFrom (now (s .entry)) (size Records * i) i) ⌝ }
 {
-    let p = 3 * i;
+    let p = model::RECORD_WORDS * i;
     let next = field(2, in_range(s, p + 2, 0, head.records), Fault::Clear);
     let factor = field(1, in_range(s, p + 1, 0, 3000), next);
     field(0, in_range(s, p, 1, head.effects), factor)

@@ -8,6 +8,8 @@ ghost use lib.Signed.{ltZ};
 ghost use Rattle.exact.specs.Bounds.{Within};
 ghost use Rattle.exact.specs.Choice.{if_then_else_, between};
 ghost use Rattle.model.specs.Fields.{misfit};
+ghost use Rattle.model.specs.Format.{bytes};
+ghost use Rattle.model.specs.declared.Part.the-variants.{Line};
 ghost use Rattle.model.specs.Refusals.{crosses, signs};
 ghost use Rattle.job.specs.Sized.{placeOf};
 ghost use Rattle.job.specs.Lines.{AllWithin, NoneCrosses};
@@ -54,11 +56,11 @@ fn crosses(x: i64, y: i64) -> bool
 
 // The first piece of a line's own bytes with one ordinate above 0 and one below.
 fn first_crossing(s: &[u8], pieces: usize) -> Fault
-    requires { ⌜ 8 * pieces ≤ length (now s) ⌝ }
+    requires { ⌜ bytes Line * pieces ≤ length (now s) ⌝ }
     ensures { λ r. ⌜ placeOf r ≡ misfit (signs pieces) (now (s .entry)) ⌝ }
 {
     for i in 0..pieces {
-        let p = 2 * i;
+        let p = model::PIECE_WORDS * i;
         if crosses(words::word(s, p), words::word(s, p + 1)) {
             return Fault::At(p);
         }
@@ -95,19 +97,20 @@ fn crossed(left: i32, right: i32) -> u32
 
 // How many of so many pieces cross zero.
 fn crossings(s: &[u8], pieces: usize) -> u32
-    requires { ⌜ (8 * pieces ≤ length (now s)) × (pieces ≤ 1000) ⌝ }
+    requires { ⌜ (bytes Line * pieces ≤ length (now s)) × (pieces ≤ 1000) ⌝ }
     ensures { λ r. ⌜ (r ≡ 0 → NoneCrosses (now (s .entry)) pieces) ⌝ }
 {
     let mut sum: u32 = 0;
     for i in 0..pieces {
-        sum += crossed(words::word32(s, 2 * i), words::word32(s, 2 * i + 1));
+        let p = model::PIECE_WORDS * i;
+        sum += crossed(words::word32(s, p), words::word32(s, p + 1));
     }
     sum
 }
 
 // Of a line's own bytes: a piece with one ordinate above 0 and one below, sought only where there is one.
 pub fn crossing(s: &[u8], pieces: usize) -> Fault
-    requires { ⌜ (8 * pieces ≤ length (now s)) × (pieces ≤ 1000) ⌝ }
+    requires { ⌜ (bytes Line * pieces ≤ length (now s)) × (pieces ≤ 1000) ⌝ }
     ensures { λ r. ⌜ placeOf r ≡ misfit (signs pieces) (now (s .entry)) ⌝ }
 {
     if crossings(s, pieces) == 0 {

@@ -5,9 +5,9 @@ ghost use Prim.Native.Nat.{ℕ, _≤_};
 ghost use lib.ListN.{length};
 ghost use Rattle.exact.specs.Choice.{orElse};
 ghost use Rattle.model.specs.Fields.{moved};
-ghost use Rattle.model.specs.Format.{headerOf, start, fault};
+ghost use Rattle.model.specs.Format.{headerOf, bytes, start, fault};
 ghost use Rattle.model.specs.Refusals.{fault1, fault2, fault3, fault4, fault5, fault6, rowFault, jobVerdict};
-ghost use Rattle.model.specs.declared.Part.the-variants.{Line};
+ghost use Rattle.model.specs.declared.Part.the-variants.{Head, Line};
 ghost use Rattle.job.specs.Sized.{placeOf, Counted, Sized};
 ghost use Rattle.job.specs.Defects.{chainPasses};
 ghost use Rattle.job.specs.Rulings.{Rules, testOf, Passed};
@@ -31,7 +31,7 @@ pub struct Ruling {
 fn frame(s: &[u8]) -> Fault
     ensures { λ r. ⌜ placeOf r ≡ fault1 (now (s .entry)) ⌝ }
 {
-    if s.len() < 40 {
+    if s.len() < 4 * model::HEADER_WORDS {
         return Fault::At(0);
     }
     if s.len() % 4 != 0 {
@@ -45,7 +45,7 @@ fn frame(s: &[u8]) -> Fault
 
 // 2: a header word outside its limits.
 fn limits(s: &[u8], head: Header) -> Fault
-    requires { ⌜ (head ≡ headerOf (now s)) × (40 ≤ length (now s)) ⌝ }
+    requires { ⌜ (head ≡ headerOf (now s)) × (bytes Head ≤ length (now s)) ⌝ }
     ensures { λ r. ⌜ placeOf r ≡ fault2 (now (s .entry)) ⌝ }
 {
     limits::header_misfit(sections::header(s, head), head)

@@ -2,7 +2,7 @@
 ghost use mathlib.Core.Path.{_≡_};
 ghost use Prim.Native.Nat.{_*_, _≤_};
 ghost use lib.ListN.{length};
-ghost use Rattle.model.specs.Format.{format, words, start, wordsDue, section, sectionOf};
+ghost use Rattle.model.specs.Format.{format, bytes, words, start, wordsDue, section, sectionOf};
 ghost use Rattle.model.specs.declared.Part.the-variants.{Head};
 ghost use Rattle.job.specs.Sized.{Counted, Sized};
 use model::Header;
@@ -13,12 +13,12 @@ pub(crate) fn item_words(head: Header, part: Part) -> usize
     ensures { λ r. ⌜ (r ≡ length (format head part .fields)) × (r ≤ 10) ⌝ }
 {
     match part {
-        Part::Head => 10,
-        Part::Line => 2,
+        Part::Head => model::HEADER_WORDS,
+        Part::Line => model::PIECE_WORDS,
         Part::Transverse => 1,
-        Part::Effects => 2,
-        Part::Rows => 4,
-        Part::Records => 3,
+        Part::Effects => model::EFFECT_WORDS,
+        Part::Rows => model::ROW_WORDS,
+        Part::Records => model::RECORD_WORDS,
     }
 }
 
@@ -79,10 +79,10 @@ pub(crate) fn words_due(head: Header) -> usize
 
 // The header's own bytes, whatever its words say.
 pub(crate) fn header(s: &[u8], head: Header) -> &[u8]
-    requires { ⌜ 40 ≤ length (now s) ⌝ }
+    requires { ⌜ bytes Head ≤ length (now s) ⌝ }
     ensures { λ r. ⌜ now r ≡ section (now (s .entry)) head Head ⌝ }
 {
-    &s[0..40]
+    &s[0..4 * model::HEADER_WORDS]
 }
 
 // A part as its own bytes of the job.

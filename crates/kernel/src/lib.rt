@@ -88,7 +88,11 @@ fn sought(job: &[u8], head: Header) -> Senses
     requires { ⌜ Ready (now job) head ⌝ }
     ensures { λ r. ⌜ SensesRight (decode (now (job .entry)) .line) r ⌝ }
 {
-    effect::seek(sections::section(job, head, Part::Line), head.h, head.pieces)
+    effect::seek(
+        sections::section(job, head, Part::Line),
+        head.h,
+        head.pieces,
+    )
 }
 
 // The traffic values of both live kinds, and the number of lanes.
@@ -113,7 +117,11 @@ fn values(job: &[u8], head: Header, raising: Sought, lowering: Sought) -> Traffi
         lowering: Ho::effect(lowering),
     };
     let d = dynamic::factor(head.kind, head.value);
-    let across = centres::across_of(sections::section(job, head, Part::Transverse), head.width, head.spacing);
+    let across = centres::across_of(
+        sections::section(job, head, Part::Transverse),
+        head.width,
+        head.spacing,
+    );
     let ng = traffic::normal(Question::Greatest, across, d, hn);
     let nl = traffic::normal(Question::Least, across, d, hn);
     let og = traffic::overload(Question::Greatest, across, d, hn, ho);

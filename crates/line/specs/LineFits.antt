@@ -3,6 +3,8 @@ use Prim.Native.Nat.{ℕ, _+_, _*_, _≤_, _<_}
 use mathlib.Core.List.{List}
 use lib.ListN.{length}
 use Rattle.exact.specs.Bounds.{Within}
+use Rattle.model.specs.Format.{size, bytes}
+use Rattle.model.specs.declared.Part.the-variants.{Line}
 use Rattle.model.specs.Magnitudes.{piecesMost, ordinateMost}
 use Rattle.model.specs.Words.{wordAt}
 
@@ -13,11 +15,11 @@ pub record WordFits (s : List ℕ) (k : ℕ) : Type 0 where
 
 -- so are piece i's two ordinates
 pub record PieceFits (s : List ℕ) (i : ℕ) : Type 0 where
-  pub room : 8 * i + 8 ≤ length s
-  pub near : (k : ℕ) → 2 * i ≤ k → k ≤ 2 * i + 1 → Within ordinateMost (wordAt s k)
+  pub room : bytes Line * i + bytes Line ≤ length s
+  pub near : (k : ℕ) → size Line * i ≤ k → k ≤ size Line * i + 1 → Within ordinateMost (wordAt s k)
 
 -- and those of n pieces
 pub record LineFits (s : List ℕ) (n : ℕ) : Type 0 where
-  pub room : 8 * n ≤ length s
+  pub room : bytes Line * n ≤ length s
   pub few : n ≤ piecesMost
-  pub near : (k : ℕ) → k < 2 * n → Within ordinateMost (wordAt s k)
+  pub near : (k : ℕ) → k < size Line * n → Within ordinateMost (wordAt s k)

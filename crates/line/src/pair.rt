@@ -130,7 +130,7 @@ pub(crate) fn best_ranks(line: &[u8], h: usize, n: usize) -> Ranks
     ensures { λ r. ⌜ RanksRight (placed (influenceLine (now (line .entry)) h n)) (2 * (n + 50 / h) + 1) r ⌝ }
 {
     let apart = places_apart(h);
-    let end = 2 * n;
+    let end = model::PIECE_WORDS * n;
     let edge = lesser(apart, end);
     let none = Ranks {
         greatest: rank(Question::Greatest, 0, 0),

@@ -25,7 +25,7 @@ fn end_sum(line: &[u8], i: usize) -> i32
     requires { ⌜ PieceFits (now line) i ⌝ }
     ensures { λ r. ⌜ (r ≡ endSum (pieceAt (now (line .entry)) i)) × Within pairMost r ⌝ }
 {
-    ordinate(line, 2 * i) + ordinate(line, 2 * i + 1)
+    ordinate(line, model::PIECE_WORDS * i) + ordinate(line, model::PIECE_WORDS * i + 1)
 }
 
 // Piece i's patch byte.

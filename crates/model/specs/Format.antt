@@ -94,6 +94,14 @@ before Records = Head ∷ Line ∷ Transverse ∷ Effects ∷ Rows ∷ []
 
 -- ---- all else, for any table
 
+-- the words of an item of a part, whatever the header's counts
+abbrev pub size : Part → ℕ
+size part = length (format (headerOf []) part .fields)
+
+-- and its bytes
+abbrev pub bytes : Part → ℕ
+bytes part = 4 * size part
+
 -- a part's words
 abbrev pub words : Header → Part → ℕ
 words head part = wordsIn (format head part)

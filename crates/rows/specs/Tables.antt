@@ -4,36 +4,38 @@ use mathlib.Core.List.{List}
 use lib.ListN.{length}
 use Rattle.exact.specs.Bounds.{Within}
 use Rattle.model.specs.Words.{wordAt, countAt}
+use Rattle.model.specs.Format.{size, bytes}
+use Rattle.model.specs.declared.Part.the-variants.{Effects, Rows, Records}
 use Rattle.model.specs.Chains.{recordEffect, recordFactor, nextRecord}
 use Rattle.model.specs.Decode.{firstRecord, termsFrom}
 use Rattle.model.specs.Rows.{Distinct}
 
 -- every effect's value, in kN·U, is within its limits
 abbrev pub EffectsInReach : List ℕ → Type 0
-EffectsInReach s = (e : ℕ) → 1 ≤ e → 8 * e ≤ length s → Within 1000000000 (wordAt s (2 * (e - 1)))
+EffectsInReach s = (e : ℕ) → 1 ≤ e → bytes Effects * e ≤ length s → Within 1000000000 (wordAt s (size Effects * (e - 1)))
 
 -- record c names an effect of the section, at most 16; its factor is within its limits, and its next is a record or 0
 pub record RecordInTables (effects s : List ℕ) (c : ℕ) : Type 0 where
   pub effect : 1 ≤ recordEffect s c
   pub most : recordEffect s c ≤ 16
-  pub there : 8 * recordEffect s c ≤ length effects
+  pub there : bytes Effects * recordEffect s c ≤ length effects
   pub factor : recordFactor s c ≤ 3000
-  pub next : 12 * nextRecord s c ≤ length s
+  pub next : bytes Records * nextRecord s c ≤ length s
 
 -- every record is such
 abbrev pub RecordsInTables : (effects : List ℕ) → List ℕ → Type 0
-RecordsInTables effects s = (c : ℕ) → 1 ≤ c → 12 * c ≤ length s → RecordInTables effects s c
+RecordsInTables effects s = (c : ℕ) → 1 ≤ c → bytes Records * c ≤ length s → RecordInTables effects s c
 
 -- row r's words are within their limits, its first record is a record or 0, and its chain, of at most `count` records, names no effect twice
 pub record RowInTables (records : List ℕ) (count : ℕ) (s : List ℕ) (r : ℕ) : Type 0 where
-  pub live : countAt s (4 * (r - 1) + 1) ≤ 2
-  pub factor : countAt s (4 * (r - 1) + 2) ≤ 3000
-  pub first : 12 * firstRecord s r ≤ length records
+  pub live : countAt s (size Rows * (r - 1) + 1) ≤ 2
+  pub factor : countAt s (size Rows * (r - 1) + 2) ≤ 3000
+  pub first : bytes Records * firstRecord s r ≤ length records
   pub distinct : Distinct (termsFrom records count (firstRecord s r))
 
 -- the three sections together, of n rows and chains of at most `count` records
 pub record TablesFit (e w s : List ℕ) (n count : ℕ) : Type 0 where
   pub effects : EffectsInReach e
   pub records : RecordsInTables e s
-  pub long : 16 * n ≤ length w
+  pub long : bytes Rows * n ≤ length w
   pub rows : (r : ℕ) → 1 ≤ r → r ≤ n → RowInTables s count w r

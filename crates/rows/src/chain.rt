@@ -5,6 +5,8 @@ ghost use Prim.Native.Nat.{_-_, _*_, _^_, _≤_};
 ghost use lib.ListN.{length};
 ghost use Rattle.exact.specs.Bounds.{Within};
 ghost use Rattle.exact.specs.declared.Question.{Question};
+ghost use Rattle.model.specs.Format.{bytes};
+ghost use Rattle.model.specs.declared.Part.the-variants.{Effects, Records};
 ghost use Rattle.model.specs.Magnitudes.{effectMost, shareMost, chainMost};
 ghost use Rattle.model.specs.Decode.{effectAt, termsFrom};
 ghost use Rattle.model.specs.Rows.{Distinct};
@@ -13,18 +15,18 @@ ghost use Rattle.rows.specs.Chained.{termAt, ShareRight, leavesShare, ex
 
 // Effect e's value in N·U.
 fn effect_value(effects: &[u8], e: usize) -> i64
-    requires { ⌜ EffectsInReach (now effects) × (1 ≤ e) × (8 * e ≤ length (now effects)) ⌝ }
+    requires { ⌜ EffectsInReach (now effects) × (1 ≤ e) × (bytes Effects * e ≤ length (now effects)) ⌝ }
     ensures { λ r. ⌜ (r ≡ effectAt (now (effects .entry)) e .value) × Within effectMost r ⌝ }
 {
-    1000 * words::word(effects, 2 * (e - 1))
+    1000 * words::word(effects, model::EFFECT_WORDS * (e - 1))
 }
 
 // Effect e may be left out.
 fn optional(effects: &[u8], e: usize) -> bool
-    requires { ⌜ (1 ≤ e) × (8 * e ≤ length (now effects)) ⌝ }
+    requires { ⌜ (1 ≤ e) × (bytes Effects * e ≤ length (now effects)) ⌝ }
     ensures { λ r. ⌜ r ≡ effectAt (now (effects .entry)) e .optional ⌝ }
 {
-    words::count(effects, 2 * (e - 1) + 1) == 2
+    words::count(effects, model::EFFECT_WORDS * (e - 1) + 1) == 2
 }
 
 // Effect e's bit among those left out, effect 1's the lowest.
@@ -44,7 +46,7 @@ pub struct Share {
 
 // Record c's share.
 fn share_of(effects: &[u8], records: &[u8], c: usize) -> Share
-    requires { ⌜ EffectsInReach (now effects) × RecordsInTables (now effects) (now records) × (1 ≤ c) × (12 * c ≤ length (now records)) ⌝ }
+    requires { ⌜ EffectsInReach (now effects) × RecordsInTables (now effects) (now records) × (1 ≤ c) × (bytes Records * c ≤ length (now records)) ⌝ }
     ensures { λ r. ⌜ ShareRight (effectAt (now (effects .entry))) (termAt (now (records .entry)) c) r ⌝ }
 {
     let e = chains::effect(records, c);
@@ -96,7 +98,7 @@ pub struct ChainedBoth {
 
 // The best of the chain from a first record, of at most so many records.
 pub(crate) fn best(effects: &[u8], records: &[u8], first: usize, count: usize) -> ChainedBoth
-    requires { ⌜ EffectsInReach (now effects) × RecordsInTables (now effects) (now records) × (12 * first ≤ length (now records)) × Distinct (termsFrom (now records) count first) ⌝ }
+    requires { ⌜ EffectsInReach (now effects) × RecordsInTables (now effects) (now records) × (bytes Records * first ≤ length (now records)) × Distinct (termsFrom (now records) count first) ⌝ }
     ensures { λ r. ⌜ ((q : Question) → ChainRight q (effectAt (now (effects .entry))) (termsFrom (now (records .entry)) count first) (chainFor q r)) ⌝ }
 {
     let mut greatest = Chained {

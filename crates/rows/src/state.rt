@@ -11,6 +11,8 @@ ghost use lib.IntN.{pos, _*ℤ_};
 ghost use lib.ListN.{length};
 ghost use Rattle.exact.specs.Bounds.{Within};
 ghost use Rattle.exact.specs.declared.Question.{Question};
+ghost use Rattle.model.specs.Format.{size, bytes};
+ghost use Rattle.model.specs.declared.Part.the-variants.{Rows};
 ghost use Rattle.model.specs.Magnitudes.{trafficMost, shareMost, chainMost};
 ghost use Rattle.model.specs.Words.{countAt};
 ghost use Rattle.model.specs.Decode.{effectAt, liveOf, firstRecord, rowAt};
@@ -46,16 +48,16 @@ fn traffic(kind: usize, live: LiveValues) -> i64
 
 // Row r's word j, from 0, as a count.
 fn word(rows: &[u8], r: usize, j: usize) -> usize
-    requires { ⌜ (1 ≤ r) × (16 * r ≤ length (now rows)) × (j < 4) ⌝ }
-    ensures { λ x. ⌜ (x ≡ countAt (now (rows .entry)) (4 * (r - 1) + j)) × (x ≤ 2147483648) ⌝ }
+    requires { ⌜ (1 ≤ r) × (bytes Rows * r ≤ length (now rows)) × (j < size Rows) ⌝ }
+    ensures { λ x. ⌜ (x ≡ countAt (now (rows .entry)) (size Rows * (r - 1) + j)) × (x ≤ 2147483648) ⌝ }
 {
-    words::count(rows, 4 * (r - 1) + j)
+    words::count(rows, model::ROW_WORDS * (r - 1) + j)
 }
 
 // Row r's traffic: its live factor times the value of its live kind.
 fn loaded(rows: &[u8], r: usize, live: LiveValues) -> i64
-    requires { ⌜ (1 ≤ r) × (16 * r ≤ length (now rows)) × (countAt (now rows) (4 * (r - 1) + 1) ≤ 2) × (countAt (now rows) (4 * (r - 1) + 2) ≤ 3000) × PairFits live ⌝ }
-    ensures { λ x. ⌜ (x ≡ pos (countAt (now (rows .entry)) (4 * (r - 1) + 2)) *ℤ liveValue live (liveOf (countAt (now (rows .entry)) (4 * (r - 1) + 1)))) × Within shareMost x ⌝ }
+    requires { ⌜ (1 ≤ r) × (bytes Rows * r ≤ length (now rows)) × (countAt (now rows) (size Rows * (r - 1) + 1) ≤ 2) × (countAt (now rows) (size Rows * (r - 1) + 2) ≤ 3000) × PairFits live ⌝ }
+    ensures { λ x. ⌜ (x ≡ pos (countAt (now (rows .entry)) (size Rows * (r - 1) + 2)) *ℤ liveValue live (liveOf (countAt (now (rows .entry)) (size Rows * (r - 1) + 1)))) × Within shareMost x ⌝ }
 {
     let kind = word(rows, r, 1);
     let factor = word(rows, r, 2);
@@ -91,7 +93,7 @@ pub struct RowBoth {
 
 // Row r's first record.
 fn first_record(rows: &[u8], r: usize) -> usize
-    requires { ⌜ (1 ≤ r) × (16 * r ≤ length (now rows)) ⌝ }
+    requires { ⌜ (1 ≤ r) × (bytes Rows * r ≤ length (now rows)) ⌝ }
     ensures { λ f. ⌜ f ≡ firstRecord (now (rows .entry)) r ⌝ }
 {
     word(rows, r, 3)
@@ -167,8 +169,8 @@ fn with_row(service: bool, sofar: Found, next: RowBoth) -> Found
 
 // Row r is of the service state.
 fn of_service(rows: &[u8], r: usize) -> bool
-    requires { ⌜ (1 ≤ r) × (16 * r ≤ length (now rows)) ⌝ }
-    ensures { λ b. ⌜ b ≡ eqb (countAt (now (rows .entry)) (4 * (r - 1))) 1 ⌝ }
+    requires { ⌜ (1 ≤ r) × (bytes Rows * r ≤ length (now rows)) ⌝ }
+    ensures { λ b. ⌜ b ≡ eqb (countAt (now (rows .entry)) (size Rows * (r - 1))) 1 ⌝ }
 {
     word(rows, r, 0) == 1
 }

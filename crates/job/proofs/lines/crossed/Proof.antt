@@ -73,8 +73,7 @@ add-result c = omega (arith, down (c .before .before) .1, up c .1)
 
 returns : tie.Need-returns
 returns c =
-    let a = c .before .before .before .before .args in
-    (
+    let a = c .before .before .before .before .args in (
       omega (arith, down (c .before .before) .1, up c .1),
       λ e. clear (ltZ (pos 0) (a .left) && ltZ (a .right) (pos 0)) (ltZ (a .left) (pos 0) && ltZ (pos 0) (a .right)) (sym (ap₂ _+_ (down (c .before .before) .0) (up c .0)) ∙ e),
     )

@@ -21,14 +21,11 @@ abbrev μ-loop : tie.MeasureT-loop
 loop-holds : tie.Need-loop-holds Inv-loop μ-loop
 loop-holds c = tally-begins
 
-mul-word32 : tie.Need-mul-word32 Inv-loop μ-loop
-mul-word32 c = omega arith
+mul-p : tie.Need-mul-p Inv-loop μ-loop
+mul-p c = omega arith
 
 word32-requires : tie.Need-word32-requires Inv-loop μ-loop
 word32-requires c κs = omega arith
-
-mul-word32-2 : tie.Need-mul-word32-2 Inv-loop μ-loop
-mul-word32-2 c = omega arith
 
 add-word32 : tie.Need-add-word32 Inv-loop μ-loop
 add-word32 c = omega arith
@@ -53,11 +50,10 @@ loop-again c =
     let at = c .before .before .before .before in
     let s = at .before .before .args .s .now in
     let i = at .loop .i in
-    tally-more (at .loop .inv)
-    (
+    tally-more (at .loop .inv) (
       c .crossed .ensures .0,
       λ e. subst (λ (x : ℤ). crosses x (wordAt s (2 * i + 1)) ≡ false) (back w32 (c .before .before .word32 .ok) (c .before .before .word32 .ensures))
-      (subst (λ (y : ℤ). crosses (toZ w32 (ofZ w32 (c .before .before .word32 .result))) y ≡ false) (back w32 (c .before .word322 .ok) (c .before .word322 .ensures)) (c .crossed .ensures .1 e)),
+          (subst (λ (y : ℤ). crosses (toZ w32 (ofZ w32 (c .before .before .word32 .result))) y ≡ false) (back w32 (c .before .word322 .ok) (c .before .word322 .ensures)) (c .crossed .ensures .1 e)),
     )
 
 returns : tie.Need-returns Inv-loop μ-loop
@@ -70,9 +66,8 @@ crossings-spec =
     Inv-loop
     μ-loop
     loop-holds
-    mul-word32
+    mul-p
     word32-requires
-    mul-word32-2
     add-word32
     word32-requires-2
     crossed-requires

@@ -24,8 +24,7 @@ returns-3 c =
     let m = arg (st .fits .m) (st .pre) in
     let x = any (st .fits .x) in
     let lo = retold (minus (lit w32 0 (lit< tt)) m (lit< tt)) (zero-less (st .args .m)) in
-    let a = st .args in
-    (
+    let a = st .args in (
       omega arith,
       λ _. and-eq-true-iff (leZ (negℤ (a .m)) (a .x)) (leZ (a .x) (a .m)) .1 (at-least (a .x) (negℤ (a .m)) (lt-no x lo (c .before .if1 .left)), at-least (a .m) (a .x) (lt-no m x (c .if2 .left))),
     )

@@ -4,6 +4,9 @@ use Rattle.model.specs.Format.{section}
 use Rattle.job.proofs.sections.header.Statement.{statement}
 use Rattle.job.proofs.sections.header.Tie as tie
 
+mul-result : tie.Need-mul-result
+mul-result c = search needs
+
 sub-result : tie.Need-sub-result
 sub-result c = search needs
 
@@ -18,4 +21,4 @@ unfolding section
 returns c = refl
 
 pub header-spec : {M : Type 1} → statement M
-header-spec = tie.close (tie.spec sub-result part-result-start part-result-end returns)
+header-spec = tie.close (tie.spec mul-result sub-result part-result-start part-result-end returns)
