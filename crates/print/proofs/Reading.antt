@@ -1,9 +1,8 @@
--- A reader of the text finds the numbers, and takes no text that was cut short for an answer.
+-- A reader takes no text that was cut short for an answer.
 use mathlib.Core.Path.{_≡_, refl, sym, ap, _∙_}
 use mathlib.Core.Bool.{Bool, true, false, cond}
 use mathlib.Core.List.{List, [], _∷_, _++_, append-assoc}
-use Prim.Native.Nat.{ℕ, zero, suc, _+_, _*_, _/_, _%_, _^_, _<_}
-use native.Mathlib.Nat.{pow-succ'}
+use Prim.Native.Nat.{ℕ, zero, suc, _+_, _/_, _%_}
 use native.Mathlib.Omega.{arith}
 use Prim.Native.String.{String}
 use lib.Dec.{ltb, eqb}
@@ -17,30 +16,8 @@ use Rattle.model.specs.declared.State.{State}
 use Rattle.model.specs.declared.State.the-variants.{Absent, Reported}
 use Rattle.model.specs.declared.Account.{Account}
 use Rattle.model.specs.declared.Answer.{Answer}
-use Rattle.print.specs.Text.{ascii, digit, digits, decimal, signed, report, trafficLine, governingText, stateLine, accountText, refusalLine, answerText, numberFrom}
-
--- one digit more
-number-digit : (s : List ℕ) (m d : ℕ) → numberFrom m (s ++ digit d) ≡ 10 * numberFrom m s + d
-unfolding numberFrom
-number-digit [] m d = omega arith
-number-digit (c ∷ s) m d = number-digit s _ d
-
-digits-read : (k n : ℕ) → n < 10 ^ k → numberFrom 0 (digits k n) ≡ n
-unfolding numberFrom digits
-digits-read zero n h = omega arith
-digits-read (suc k) n h = by (ltb n 10) (digits-read k (n / 10))
-  where
-    by : (b : Bool) → (n / 10 < 10 ^ k → numberFrom 0 (digits k (n / 10)) ≡ n / 10) →
-        numberFrom 0 (cond b (digit n) (digits k (n / 10) ++ digit (n % 10))) ≡ n
-    by true tenth = omega arith
-    by false tenth =
-        let p : 10 ^ suc k ≡ 10 * 10 ^ k = pow-succ' 10 k in
-        let t = tenth (omega arith) in
-        number-digit (digits k (n / 10)) 0 (n % 10) ∙ omega arith
-
--- A NUMBER IS READ BACK, as every one of 64 bits
-pub decimal-read : (n : ℕ) → n < 2 ^ 64 → numberFrom 0 (decimal n) ≡ n
-decimal-read n h = digits-read 20 n (omega arith)
+use Rattle.decimal.specs.Decimal.{ascii, digit, digits, decimal, signed}
+use Rattle.print.specs.Text.{report, trafficLine, governingText, stateLine, accountText, refusalLine, answerText}
 
 -- how many newlines are in a text
 unfoldable newlines : List ℕ → ℕ

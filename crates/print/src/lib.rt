@@ -6,93 +6,13 @@ use model::State;
 use model::Traffic;
 ghost use mathlib.Core.Path.{_≡_};
 ghost use mathlib.Core.List.{_++_};
-ghost use Prim.Native.Nat.{_+_, _≤_, _<_};
-ghost use lib.IntN.{natAbs};
+ghost use Prim.Native.Nat.{_+_, _≤_};
 ghost use lib.ListN.{length, take, drop};
 ghost use Rattle.buffer.specs.Stored.{Stored};
-ghost use Rattle.print.specs.Text.{digit, digits, decimal, signed, report, trafficLine, governingText, stateLine, accountText, refusalLine, answerText};
+ghost use Rattle.print.specs.Text.{report, trafficLine, governingText, stateLine, accountText, refusalLine, answerText};
 
 // Room for every answer's text.
 pub const SIZE: usize = 384;
-
-// A digit from 0 to 9.
-fn put_digit(out: &mut [u8], at: usize, d: u64) -> usize
-    requires { ⌜ at + 1 ≤ length (now out) ⌝ }
-    requires { ⌜ d < 10 ⌝ }
-    ensures { λ r. ⌜ Stored (now (out .entry)) at (digit d) (now (out .exit)) r ⌝ }
-{
-    out[at] = b'0' + d as u8;
-    at + 1
-}
-
-// The last `places` digits of a number, or all where it has fewer.
-fn put_digits(out: &mut [u8], at: usize, n: u64, places: usize) -> usize
-    requires { ⌜ at + places ≤ length (now out) ⌝ }
-    ensures { λ r. ⌜ Stored (now (out .entry)) at (digits places n) (now (out .exit)) r ⌝ }
-    ensures { λ r. ⌜ r ≤ at + places ⌝ }
-{
-    if places == 0 {
-        return at;
-    }
-    if n < 10 {
-        return put_digit(out, at, n);
-    }
-    let last = put_digits(out, at, n / 10, places - 1);
-    put_digit(out, last, n % 10)
-}
-
-fn put_decimal(out: &mut [u8], at: usize, n: u64) -> usize
-    requires { ⌜ at + 20 ≤ length (now out) ⌝ }
-    ensures { λ r. ⌜ Stored (now (out .entry)) at (decimal n) (now (out .exit)) r ⌝ }
-    ensures { λ r. ⌜ r ≤ at + 20 ⌝ }
-{
-    put_digits(out, at, n, 20)
-}
-
-// A number without its sign.
-fn magnitude(v: i64) -> u64
-    ensures { λ r. ⌜ r ≡ natAbs v ⌝ }
-{
-    if v < 0 {
-        let m = (-1 - v) as u64;
-        m + 1
-    } else {
-        v as u64
-    }
-}
-
-fn put_signed(out: &mut [u8], at: usize, v: i64) -> usize
-    requires { ⌜ at + 21 ≤ length (now out) ⌝ }
-    ensures { λ r. ⌜ Stored (now (out .entry)) at (signed v) (now (out .exit)) r ⌝ }
-    ensures { λ r. ⌜ r ≤ at + 21 ⌝ }
-{
-    if v < 0 {
-        let end = buffer::put_bytes(out, at, b"-");
-        put_decimal(out, end, magnitude(v))
-    } else {
-        put_decimal(out, at, magnitude(v))
-    }
-}
-
-// A signed number after its label.
-fn put_value(out: &mut [u8], at: usize, label: &[u8], v: i64) -> usize
-    requires { ⌜ at + length (now label) + 21 ≤ length (now out) ⌝ }
-    ensures { λ r. ⌜ Stored (now (out .entry)) at (now (label .entry) ++ signed v) (now (out .exit)) r ⌝ }
-    ensures { λ r. ⌜ r ≤ at + length (now (label .entry)) + 21 ⌝ }
-{
-    let end = buffer::put_bytes(out, at, label);
-    put_signed(out, end, v)
-}
-
-// A natural number after its label.
-fn put_number(out: &mut [u8], at: usize, label: &[u8], n: u64) -> usize
-    requires { ⌜ at + length (now label) + 20 ≤ length (now out) ⌝ }
-    ensures { λ r. ⌜ Stored (now (out .entry)) at (now (label .entry) ++ decimal n) (now (out .exit)) r ⌝ }
-    ensures { λ r. ⌜ r ≤ at + length (now (label .entry)) + 20 ⌝ }
-{
-    let end = buffer::put_bytes(out, at, label);
-    put_decimal(out, end, n)
-}
 
 // A live kind's line, in N·U.
 fn put_traffic(out: &mut [u8], at: usize, name: &[u8], t: Traffic) -> usize
@@ -103,8 +23,8 @@ fn put_traffic(out: &mut [u8], at: usize, name: &[u8], t: Traffic) -> usize
     let g = t.greatest;
     let l = t.least;
     let mut end = buffer::put_bytes(out, at, name);
-    end = put_value(out, end, b" greatest ", g.value);
-    end = put_value(out, end, b" least ", l.value);
+    end = decimal::put_value(out, end, b" greatest ", g.value);
+    end = decimal::put_value(out, end, b" least ", l.value);
     buffer::put_bytes(out, end, b"\n")
 }
 
@@ -114,8 +34,8 @@ fn put_governing(out: &mut [u8], at: usize, label: &[u8], g: Governing) -> usize
     ensures { λ r. ⌜ Stored (now (out .entry)) at (now (label .entry) ++ governingText g) (now (out .exit)) r ⌝ }
     ensures { λ r. ⌜ r ≤ at + length (now (label .entry)) + 46 ⌝ }
 {
-    let end = put_value(out, at, label, g.value);
-    put_number(out, end, b" row ", g.row as u64)
+    let end = decimal::put_value(out, at, label, g.value);
+    decimal::put_number(out, end, b" row ", g.row as u64)
 }
 
 // A reported limit state's greatest and least.
@@ -164,8 +84,8 @@ fn put_refusal(out: &mut [u8], number: u32, place: usize) -> usize
     ensures { λ r. ⌜ Stored (now (out .entry)) 0 (refusalLine number place) (now (out .exit)) r ⌝ }
     ensures { λ r. ⌜ r ≤ 384 ⌝ }
 {
-    let mut end = put_number(out, 0, b"refused ", number as u64);
-    end = put_number(out, end, b" at ", place as u64);
+    let mut end = decimal::put_number(out, 0, b"refused ", number as u64);
+    end = decimal::put_number(out, end, b" at ", place as u64);
     buffer::put_bytes(out, end, b"\n")
 }
 

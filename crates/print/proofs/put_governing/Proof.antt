@@ -3,7 +3,7 @@ use native.Mathlib.Omega.{arith}
 use mir.Syntax.{w64}
 use mir.Val.{SFits}
 use Rattle.buffer.proofs.Stores.{and-then, retold}
-use Rattle.print.proofs.Signs.{signed-kept}
+use Rattle.decimal.proofs.Signs.{signed-kept}
 use borrow.Author.Needs.{needs}
 use Rattle.print.proofs.put_governing.Statement.{statement}
 use Rattle.print.proofs.put_governing.Tie as tie

@@ -2,8 +2,8 @@ use native.Mathlib.Omega.{arith}
 use mir.Syntax.{w64}
 use mir.Val.{SFits}
 use Rattle.buffer.proofs.Stores.{and-then}
-use Rattle.print.specs.Text.{ascii}
-use Rattle.print.proofs.Signs.{signed-kept}
+use Rattle.decimal.specs.Decimal.{ascii}
+use Rattle.decimal.proofs.Signs.{signed-kept}
 use borrow.Author.Needs.{needs}
 use Rattle.print.proofs.put_traffic.Statement.{statement}
 use Rattle.print.proofs.put_traffic.Tie as tie

@@ -1,8 +1,8 @@
 use native.Mathlib.Omega.{arith}
 use Rattle.buffer.proofs.Stores.{and-then}
 use borrow.Author.Needs.{needs}
-use Rattle.print.proofs.put_number.Statement.{statement}
-use Rattle.print.proofs.put_number.Tie as tie
+use Rattle.decimal.proofs.put_number.Statement.{statement}
+use Rattle.decimal.proofs.put_number.Tie as tie
 
 put-bytes-requires : tie.Need-put-bytes-requires
 put-bytes-requires c κs = search needs

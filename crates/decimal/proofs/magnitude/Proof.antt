@@ -5,9 +5,9 @@ use lib.IntN.{natAbs}
 use mir.Syntax.{w64}
 use mir.Val.{SFits, toZ, ofZ}
 use mir.Facts.{toZ-ofZ}
-use Rattle.print.proofs.Signs.{Below, below, Above, above}
-use Rattle.print.proofs.magnitude.Statement.{statement}
-use Rattle.print.proofs.magnitude.Tie as tie
+use Rattle.decimal.proofs.Signs.{Below, below, Above, above}
+use Rattle.decimal.proofs.magnitude.Statement.{statement}
+use Rattle.decimal.proofs.magnitude.Tie as tie
 
 at-below : (c : tie.Then1) → Below (toZ w64 (ofZ w64 (c .before .args .v)))
 at-below c = below _ (subst (SFits w64) (sym (toZ-ofZ (c .before .fits .v))) (c .before .fits .v)) (c .if1 .taken)

@@ -1,10 +1,10 @@
 use mathlib.Core.List.{[]}
 use native.Mathlib.Omega.{arith}
 use Rattle.buffer.proofs.Stores.{and-then}
-use Rattle.print.proofs.Signs.{signed-kept}
+use Rattle.decimal.proofs.Signs.{signed-kept}
 use borrow.Author.Needs.{needs}
-use Rattle.print.proofs.put_value.Statement.{statement}
-use Rattle.print.proofs.put_value.Tie as tie
+use Rattle.decimal.proofs.put_value.Statement.{statement}
+use Rattle.decimal.proofs.put_value.Tie as tie
 
 put-bytes-requires : tie.Need-put-bytes-requires
 put-bytes-requires c κs = search needs

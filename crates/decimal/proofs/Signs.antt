@@ -14,7 +14,7 @@ use mir.Val.{SFits, toZ, ofZ}
 use mir.Facts.{toZ-ofZ}
 use Rattle.buffer.specs.Stored.{Stored}
 use Rattle.buffer.proofs.Stores.{retold}
-use Rattle.print.specs.Text.{ascii, decimal, signed}
+use Rattle.decimal.specs.Decimal.{ascii, decimal, signed}
 
 -- -1 less a number below 0
 flip : (n : ℕ) → negsuc 0 -ℤ negsuc n ≡ pos n

@@ -1,7 +1,7 @@
 use borrow.Author.Needs.{needs}
 use Rattle.buffer.proofs.Stores.{byte}
-use Rattle.print.proofs.put_digit.Statement.{statement}
-use Rattle.print.proofs.put_digit.Tie as tie
+use Rattle.decimal.proofs.put_digit.Statement.{statement}
+use Rattle.decimal.proofs.put_digit.Tie as tie
 
 cast-out : tie.Need-cast-out
 cast-out c = search needs

@@ -6,13 +6,13 @@ use borrow.Author.Needs.{needs}
 use borrow.Fn.Kinds.{In}
 use borrow.Fn.PlainCycle.{Measures, is, falls, and}
 use Rattle.buffer.proofs.Stores.{nothing, and-then, retold}
-use Rattle.print.proofs.Digits.{digits-none, digits-one, digits-more}
-use Rattle.print.proofs.put_digits.Reads as put-digits
-use Rattle.print.proofs.put_digits.Kinds as put-digits-kinds
-use Rattle.print.proofs.+put_digits.Lts-put_digits as put-digits-lts
-use Rattle.print.proofs.put_digit.Reads as put-digit-reads
-use Rattle.print.proofs.+put_digits.{statement}
-use Rattle.print.proofs.+put_digits.Tie.{close}
+use Rattle.decimal.proofs.Digits.{digits-none, digits-one, digits-more}
+use Rattle.decimal.proofs.put_digits.Reads as put-digits
+use Rattle.decimal.proofs.put_digits.Kinds as put-digits-kinds
+use Rattle.decimal.proofs.+put_digits.Lts-put_digits as put-digits-lts
+use Rattle.decimal.proofs.put_digit.Reads as put-digit-reads
+use Rattle.decimal.proofs.+put_digits.{statement}
+use Rattle.decimal.proofs.+put_digits.Tie.{close}
 
 abbrev μ-put-digits : Measures 1 put-digits-kinds.ps ℕ
 μ-put-digits κs a = a .1 .1 .1 .0

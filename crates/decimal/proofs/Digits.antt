@@ -5,7 +5,7 @@ use mathlib.Core.List.{[], _++_}
 use Prim.Native.Nat.{ℕ, zero, suc, _-_, _/_, _%_, _≤_, _<_}
 use native.Mathlib.Omega.{arith}
 use borrow.Author.Tests.{lt-ltb, le-ltb}
-use Rattle.print.specs.Text.{digit, digits}
+use Rattle.decimal.specs.Decimal.{digit, digits}
 
 pub digits-none : (k n : ℕ) → k ≡ 0 → [] ≡ digits k n
 unfolding digits

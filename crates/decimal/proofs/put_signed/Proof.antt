@@ -1,12 +1,12 @@
 use mathlib.Core.Path.{ap, _∙_}
 use native.Mathlib.Omega.{arith}
 use mir.Facts.{toZ-ofZ}
-use Rattle.print.specs.Text.{decimal, signed}
+use Rattle.decimal.specs.Decimal.{decimal, signed}
 use Rattle.buffer.proofs.Stores.{and-then, retold}
-use Rattle.print.proofs.Signs.{signed-below, signed-above}
+use Rattle.decimal.proofs.Signs.{signed-below, signed-above}
 use borrow.Author.Needs.{needs}
-use Rattle.print.proofs.put_signed.Statement.{statement}
-use Rattle.print.proofs.put_signed.Tie as tie
+use Rattle.decimal.proofs.put_signed.Statement.{statement}
+use Rattle.decimal.proofs.put_signed.Tie as tie
 
 slice-aggregate-put-bytes : tie.Need-slice-aggregate-put-bytes
 slice-aggregate-put-bytes c = search needs
