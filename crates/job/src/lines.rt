@@ -30,7 +30,7 @@ fn outside(x: i32, m: i32) -> u32
 }
 
 // How many of a section's words are outside -m to m.
-pub fn strays(s: &[u8], m: i32) -> u32
+pub(crate) fn strays(s: &[u8], m: i32) -> u32
     requires { ⌜ (length (now s) ≤ 8000) × Within 1000000 m ⌝ }
     ensures { λ r. ⌜ (r ≡ 0 → AllWithin (now (s .entry)) m) ⌝ }
 {

@@ -18,17 +18,8 @@ loop-holds c =
     let e : n - 0 ≡ n = omega arith in
     (omega arith, all-left (omega arith) (ap (λ (k : ℕ). replicate k 0) e))
 
-add-out : tie.Need-add-out Inv-loop μ-loop
-add-out c = omega arith
-
 slice-write-out : tie.Need-slice-write-out Inv-loop μ-loop
 slice-write-out c = omega (arith, c .before .loop .inv .1 .size)
-
-add-i : tie.Need-add-i Inv-loop μ-loop
-add-i c = omega arith
-
-loop-less : tie.Need-loop-less Inv-loop μ-loop
-loop-less c = omega arith
 
 loop-again : tie.Need-loop-again Inv-loop μ-loop
 loop-again c =
@@ -36,9 +27,6 @@ loop-again c =
     let n = c .before .before .args .n in
     let e : n - l .i ≡ suc (n - (l .i + 1)) = omega arith in
     (omega arith, one-less (ap (λ (k : ℕ). replicate k 0) e) (omega arith) (l .inv .1))
-
-add-result : tie.Need-add-result Inv-loop μ-loop
-add-result c = omega arith
 
 same-length : tie.Need-same-length Inv-loop μ-loop
 same-length c = c .before .loop .inv .1 .size
@@ -57,11 +45,11 @@ put-zeros-spec =
     Inv-loop
     μ-loop
     loop-holds
-    add-out
+    (λ c. omega arith)
     slice-write-out
-    add-i
-    loop-less
+    (λ c. omega arith)
+    (λ c. omega arith)
     loop-again
-    add-result
+    (λ c. omega arith)
     same-length
     returns)

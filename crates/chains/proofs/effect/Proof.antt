@@ -5,11 +5,8 @@ use Rattle.model.specs.Words.{countAt}
 use Rattle.chains.proofs.effect.Statement.{statement}
 use Rattle.chains.proofs.effect.Tie as tie
 
-word-requires : tie.Need-word-requires
-word-requires c κs = search needs
-
 returns : tie.Need-returns
 returns c = (c .word .ensures .0 ∙ ap (countAt _) (add-zero _), c .word .ensures .1)
 
 pub effect-spec : {M : Type 1} → statement M
-effect-spec = tie.close (tie.spec word-requires returns)
+effect-spec = tie.close (tie.spec (λ c κs. search needs) returns)

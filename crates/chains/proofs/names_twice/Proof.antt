@@ -50,12 +50,6 @@ next-requires c κs =
     let inside = l (c .before) .loop .inv .2 in
     (omega arith, omega arith)
 
-add-counter : tie.Need-add-counter Inv-loop μ-loop
-add-counter c = omega arith
-
-loop-less : tie.Need-loop-less Inv-loop μ-loop
-loop-less c = omega arith
-
 loop-again : tie.Need-loop-again Inv-loop μ-loop
 loop-again c =
     let d = c .before .before in
@@ -83,7 +77,7 @@ names-twice-spec =
     returns-2
     array-write-seen
     next-requires
-    add-counter
-    loop-less
+    (λ c. omega arith)
+    (λ c. omega arith)
     loop-again
     returns-3)

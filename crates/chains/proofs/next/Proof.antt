@@ -2,11 +2,8 @@ use borrow.Author.Needs.{needs}
 use Rattle.chains.proofs.next.Statement.{statement}
 use Rattle.chains.proofs.next.Tie as tie
 
-word-requires : tie.Need-word-requires
-word-requires c κs = search needs
-
 returns : tie.Need-returns
 returns c = c .word .ensures
 
 pub next-spec : {M : Type 1} → statement M
-next-spec = tie.close (tie.spec word-requires returns)
+next-spec = tie.close (tie.spec (λ c κs. search needs) returns)

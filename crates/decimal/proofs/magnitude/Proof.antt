@@ -30,8 +30,5 @@ cast-result c = let a = at-above c in (a .sign, record { fits = omega (arith, a 
 returns : tie.Need-returns
 returns c = at-below c .more ∙ ap natAbs (toZ-ofZ (c .before .fits .v))
 
-returns-2 : tie.Need-returns-2
-returns-2 c = search needs
-
 pub magnitude-spec : {M : Type 1} → statement M
-magnitude-spec = tie.close (tie.spec sub-m cast-m add-result cast-result returns returns-2)
+magnitude-spec = tie.close (tie.spec sub-m cast-m add-result cast-result returns (λ c. search needs))

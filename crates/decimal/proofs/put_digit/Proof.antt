@@ -3,24 +3,9 @@ use Rattle.buffer.proofs.Stores.{byte}
 use Rattle.decimal.proofs.put_digit.Statement.{statement}
 use Rattle.decimal.proofs.put_digit.Tie as tie
 
-cast-out : tie.Need-cast-out
-cast-out c = search needs
-
-add-out : tie.Need-add-out
-add-out c = search needs
-
-slice-write-out : tie.Need-slice-write-out
-slice-write-out c = search needs
-
-add-result : tie.Need-add-result
-add-result c = search needs
-
-same-length : tie.Need-same-length
-same-length c = search needs
-
 returns : tie.Need-returns
 returns c = byte
 
 pub put-digit-spec : {M : Type 1} → statement M
 put-digit-spec =
-    tie.close (tie.spec cast-out add-out slice-write-out add-result same-length returns)
+    tie.close (tie.spec (λ c. search needs) (λ c. search needs) (λ c. search needs) (λ c. search needs) (λ c. search needs) returns)

@@ -6,15 +6,6 @@ use borrow.Author.Needs.{needs}
 use Rattle.decimal.proofs.put_value.Statement.{statement}
 use Rattle.decimal.proofs.put_value.Tie as tie
 
-put-bytes-requires : tie.Need-put-bytes-requires
-put-bytes-requires c κs = search needs
-
-put-signed-requires : tie.Need-put-signed-requires
-put-signed-requires c κs = search needs
-
-same-length : tie.Need-same-length
-same-length c = search needs
-
 returns : tie.Need-returns
 returns c =
     let p2 = c .before .before in
@@ -25,4 +16,4 @@ returns c =
     )
 
 pub put-value-spec : {M : Type 1} → statement M
-put-value-spec = tie.close (tie.spec put-bytes-requires put-signed-requires same-length returns)
+put-value-spec = tie.close (tie.spec (λ c κs. search needs) (λ c κs. search needs) (λ c. search needs) returns)

@@ -18,15 +18,9 @@ returns-3 : tie.Need-returns-3
 unfolding dynamicFactor
 returns-3 c = rw (ne-eqb _ _ (c .before .before .if1 .left), ne-eqb _ _ (c .before .if2 .left)) (omega arith)
 
-mul-result : tie.Need-mul-result
-mul-result c = search needs
-
-sub-result : tie.Need-sub-result
-sub-result c = search needs
-
 returns-4 : tie.Need-returns-4
 unfolding dynamicFactor
 returns-4 c = rw (ne-eqb _ _ (c .before .before .if1 .left), ne-eqb _ _ (c .before .if2 .left)) (omega arith)
 
 pub factor-spec : {M : Type 1} → statement M
-factor-spec = tie.close (tie.spec returns returns-2 returns-3 mul-result sub-result returns-4)
+factor-spec = tie.close (tie.spec returns returns-2 returns-3 (λ c. search needs) (λ c. search needs) returns-4)

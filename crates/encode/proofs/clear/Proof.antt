@@ -8,12 +8,6 @@ use Rattle.buffer.proofs.Stores.{from-start}
 use Rattle.encode.proofs.clear.Statement.{statement}
 use Rattle.encode.proofs.clear.Tie as tie
 
-put-zeros-requires : tie.Need-put-zeros-requires
-put-zeros-requires c κs = search needs
-
-same-length : tie.Need-same-length
-same-length c = search needs
-
 returns : tie.Need-returns
 returns c =
     let p = c .before .before in
@@ -24,4 +18,4 @@ returns c =
     from-start (p .put-zeros .ensures) (omega arith) ∙ ap (λ (l : List ℕ). zeros ++ l) (drop-of-length-le s {i = p .put-zeros .result} (omega arith)) ∙ append-nil zeros
 
 pub clear-spec : {M : Type 1} → statement M
-clear-spec = tie.close (tie.spec put-zeros-requires same-length returns)
+clear-spec = tie.close (tie.spec (λ c κs. search needs) (λ c. search needs) returns)

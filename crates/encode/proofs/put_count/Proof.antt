@@ -5,12 +5,6 @@ use borrow.Author.Needs.{needs}
 use Rattle.encode.proofs.put_count.Statement.{statement}
 use Rattle.encode.proofs.put_count.Tie as tie
 
-put-bits-requires : tie.Need-put-bits-requires
-put-bits-requires c κs = search needs
-
-same-length : tie.Need-same-length
-same-length c = search needs
-
 returns : tie.Need-returns
 returns c =
     let p = c .before .before in
@@ -18,4 +12,4 @@ returns c =
     one (pos (s .args .x)) (record { sfits = s .pre .1 }) refl (p .put-bits .ensures)
 
 pub put-count-spec : {M : Type 1} → statement M
-put-count-spec = tie.close (tie.spec put-bits-requires same-length returns)
+put-count-spec = tie.close (tie.spec (λ c κs. search needs) (λ c. search needs) returns)

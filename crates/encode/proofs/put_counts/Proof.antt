@@ -3,15 +3,6 @@ use borrow.Author.Needs.{needs}
 use Rattle.encode.proofs.put_counts.Statement.{statement}
 use Rattle.encode.proofs.put_counts.Tie as tie
 
-put-count-requires : tie.Need-put-count-requires
-put-count-requires c κs = search needs
-
-put-zeros-requires : tie.Need-put-zeros-requires
-put-zeros-requires c κs = search needs
-
-same-length : tie.Need-same-length
-same-length c = search needs
-
 returns : tie.Need-returns
 returns c =
     let p2 = c .before .before in
@@ -19,4 +10,4 @@ returns c =
     and-then (p1 .put-count .ensures) (p2 .put-zeros .ensures)
 
 pub put-counts-spec : {M : Type 1} → statement M
-put-counts-spec = tie.close (tie.spec put-count-requires put-zeros-requires same-length returns)
+put-counts-spec = tie.close (tie.spec (λ c κs. search needs) (λ c κs. search needs) (λ c. search needs) returns)

@@ -5,30 +5,6 @@ use borrow.Author.Needs.{needs}
 use Rattle.encode.proofs.put_governing.Statement.{statement}
 use Rattle.encode.proofs.put_governing.Tie as tie
 
-put-signed-requires : tie.Need-put-signed-requires
-put-signed-requires c κs = search needs
-
-put-count-requires : tie.Need-put-count-requires
-put-count-requires c κs = search needs
-
-cast-put-count : tie.Need-cast-put-count
-cast-put-count c = search needs
-
-put-count-requires-2 : tie.Need-put-count-requires-2
-put-count-requires-2 c κs = search needs
-
-flag-number-requires : tie.Need-flag-number-requires
-flag-number-requires c κs = search needs
-
-put-count-requires-3 : tie.Need-put-count-requires-3
-put-count-requires-3 c κs = search needs
-
-put-count-requires-4 : tie.Need-put-count-requires-4
-put-count-requires-4 c κs = search needs
-
-same-length : tie.Need-same-length
-same-length c = search needs
-
 returns : tie.Need-returns
 returns c =
     let p5 = c .before .before in
@@ -46,12 +22,12 @@ pub put-governing-spec : {M : Type 1} → statement M
 put-governing-spec =
     tie.close
     (tie.spec
-    put-signed-requires
-    put-count-requires
-    cast-put-count
-    put-count-requires-2
-    flag-number-requires
-    put-count-requires-3
-    put-count-requires-4
-    same-length
+    (λ c κs. search needs)
+    (λ c κs. search needs)
+    (λ c. search needs)
+    (λ c κs. search needs)
+    (λ c κs. search needs)
+    (λ c κs. search needs)
+    (λ c κs. search needs)
+    (λ c. search needs)
     returns)

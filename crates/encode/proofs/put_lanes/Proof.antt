@@ -1,10 +1,9 @@
-use mathlib.Core.Path.{_≡_, refl, sym, ap, subst, _∙_}
-use Prim.Native.Nat.{ℕ, zero, suc, _+_, _*_, _-_, _^_, _≤_, _<_}
+use mathlib.Core.Path.{_≡_, refl, sym, ap}
+use Prim.Native.Nat.{ℕ, zero, suc, _*_, _-_, _≤_}
 use native.Mathlib.Omega.{arith}
 use native.Mathlib.Numerals.{add-one}
 use lib.ListN.{length, length-append}
 use borrow.Author.Needs.{needs}
-use Rattle.model.specs.declared.Lane.{Lane}
 use Rattle.model.specs.declared.Placement.{Placement}
 use Rattle.model.specs.Answered.{laneAt}
 use Rattle.encode.specs.Encoding.{laneNumbers, lanesNumbers, Written}
@@ -27,12 +26,6 @@ three-a-lane p (suc n) = let e = three-a-lane p n in let f = length-append (lane
 loop-holds : tie.Need-loop-holds Inv-loop μ-loop
 loop-holds c = (omega arith, nothing _)
 
-mul-lane : tie.Need-mul-lane Inv-loop μ-loop
-mul-lane c = omega arith
-
-element-copy-out-lane : tie.Need-element-copy-out-lane Inv-loop μ-loop
-element-copy-out-lane c = search needs
-
 put-lane-requires : tie.Need-put-lane-requires Inv-loop μ-loop
 put-lane-requires c κs =
     let l = c .before .before .before in
@@ -40,12 +33,6 @@ put-lane-requires c κs =
     let e = kept (l .loop .inv .1 .bytes) in
     let n = three-a-lane (s .args .t3) (l .loop .i) in
     (omega (arith, l .loop .inv .1 .ends), s .pre .1 (l .loop .i))
-
-add-i : tie.Need-add-i Inv-loop μ-loop
-add-i c = omega arith
-
-loop-less : tie.Need-loop-less Inv-loop μ-loop
-loop-less c = omega arith
 
 loop-again : tie.Need-loop-again Inv-loop μ-loop
 loop-again c =
@@ -71,11 +58,11 @@ put-lanes-spec =
     Inv-loop
     μ-loop
     loop-holds
-    mul-lane
-    element-copy-out-lane
+    (λ c. omega arith)
+    (λ c. search needs)
     put-lane-requires
-    add-i
-    loop-less
+    (λ c. omega arith)
+    (λ c. omega arith)
     loop-again
     same-length
     returns)

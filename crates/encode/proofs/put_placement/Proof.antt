@@ -3,21 +3,6 @@ use borrow.Author.Needs.{needs}
 use Rattle.encode.proofs.put_placement.Statement.{statement}
 use Rattle.encode.proofs.put_placement.Tie as tie
 
-cast-put-count : tie.Need-cast-put-count
-cast-put-count c = search needs
-
-put-count-requires : tie.Need-put-count-requires
-put-count-requires c κs = search needs
-
-put-lanes-requires : tie.Need-put-lanes-requires
-put-lanes-requires c κs = search needs
-
-put-zeros-requires : tie.Need-put-zeros-requires
-put-zeros-requires c κs = search needs
-
-same-length : tie.Need-same-length
-same-length c = search needs
-
 returns : tie.Need-returns
 returns c =
     let p3 = c .before .before in
@@ -29,9 +14,9 @@ pub put-placement-spec : {M : Type 1} → statement M
 put-placement-spec =
     tie.close
     (tie.spec
-    cast-put-count
-    put-count-requires
-    put-lanes-requires
-    put-zeros-requires
-    same-length
+    (λ c. search needs)
+    (λ c κs. search needs)
+    (λ c κs. search needs)
+    (λ c κs. search needs)
+    (λ c. search needs)
     returns)

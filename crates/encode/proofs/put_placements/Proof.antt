@@ -13,9 +13,6 @@ put-placement-requires-2 c κs =
     let s = p .before .before .before .before .before .before .before in
     (omega (arith, p .put-placement .ensures .ends), λ i. s .pre .1 i .1)
 
-same-length : tie.Need-same-length
-same-length c = search needs
-
 returns : tie.Need-returns
 returns c =
     let p2 = c .before .before in
@@ -24,4 +21,4 @@ returns c =
 
 pub put-placements-spec : {M : Type 1} → statement M
 put-placements-spec =
-    tie.close (tie.spec put-placement-requires put-placement-requires-2 same-length returns)
+    tie.close (tie.spec put-placement-requires put-placement-requires-2 (λ c. search needs) returns)

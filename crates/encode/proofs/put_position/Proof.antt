@@ -5,18 +5,6 @@ use borrow.Author.Needs.{needs}
 use Rattle.encode.proofs.put_position.Statement.{statement}
 use Rattle.encode.proofs.put_position.Tie as tie
 
-put-signed-requires : tie.Need-put-signed-requires
-put-signed-requires c κs = search needs
-
-side-number-requires : tie.Need-side-number-requires
-side-number-requires c κs = search needs
-
-put-count-requires : tie.Need-put-count-requires
-put-count-requires c κs = search needs
-
-same-length : tie.Need-same-length
-same-length c = search needs
-
 returns : tie.Need-returns
 returns c =
     let p2 = c .before .before in
@@ -28,4 +16,4 @@ returns c =
 pub put-position-spec : {M : Type 1} → statement M
 put-position-spec =
     tie.close
-    (tie.spec put-signed-requires side-number-requires put-count-requires same-length returns)
+    (tie.spec (λ c κs. search needs) (λ c κs. search needs) (λ c κs. search needs) (λ c. search needs) returns)

@@ -3,18 +3,6 @@ use borrow.Author.Needs.{needs}
 use Rattle.encode.proofs.put_reported.Statement.{statement}
 use Rattle.encode.proofs.put_reported.Tie as tie
 
-put-count-requires : tie.Need-put-count-requires
-put-count-requires c κs = search needs
-
-put-governing-requires : tie.Need-put-governing-requires
-put-governing-requires c κs = search needs
-
-put-governing-requires-2 : tie.Need-put-governing-requires-2
-put-governing-requires-2 c κs = search needs
-
-same-length : tie.Need-same-length
-same-length c = search needs
-
 returns : tie.Need-returns
 returns c =
     let p3 = c .before .before in
@@ -26,8 +14,8 @@ pub put-reported-spec : {M : Type 1} → statement M
 put-reported-spec =
     tie.close
     (tie.spec
-    put-count-requires
-    put-governing-requires
-    put-governing-requires-2
-    same-length
+    (λ c κs. search needs)
+    (λ c κs. search needs)
+    (λ c κs. search needs)
+    (λ c. search needs)
     returns)

@@ -7,15 +7,6 @@ use borrow.Author.Needs.{needs}
 use Rattle.encode.proofs.put_signed.Statement.{statement}
 use Rattle.encode.proofs.put_signed.Tie as tie
 
-bits-of-requires : tie.Need-bits-of-requires
-bits-of-requires c κs = search needs
-
-put-bits-requires : tie.Need-put-bits-requires
-put-bits-requires c κs = search needs
-
-same-length : tie.Need-same-length
-same-length c = search needs
-
 returns : tie.Need-returns
 returns c =
     let p = c .before .before in
@@ -24,4 +15,4 @@ returns c =
     one (s .args .v) (s .fits .v) bits (p .put-bits .ensures)
 
 pub put-signed-spec : {M : Type 1} → statement M
-put-signed-spec = tie.close (tie.spec bits-of-requires put-bits-requires same-length returns)
+put-signed-spec = tie.close (tie.spec (λ c κs. search needs) (λ c κs. search needs) (λ c. search needs) returns)

@@ -6,31 +6,16 @@ use borrow.Author.Needs.{needs}
 use Rattle.encode.proofs.put_state.Statement.{statement}
 use Rattle.encode.proofs.put_state.Tie as tie
 
-enum-told : tie.Need-enum-told
-enum-told c = search needs
-
-put-zeros-requires : tie.Need-put-zeros-requires
-put-zeros-requires c κs = search needs
-
-enum-known-s : tie.Need-enum-known-s
-enum-known-s c = search needs
-
 put-reported-requires : tie.Need-put-reported-requires
 put-reported-requires c κs =
     let s = c .before .before .before .before .before in
     let rows = subst RowsFit (c .before .before .s .given .1) (s .pre .1) in
     (omega arith, rows)
 
-same-length : tie.Need-same-length
-same-length c = search needs
-
 returns : tie.Need-returns
 returns c =
     let p = c .before .before in
     retold (sym (ap limitNumbers (p .before .before .enum-told .given .1))) (p .put-zeros .ensures)
-
-same-length-2 : tie.Need-same-length-2
-same-length-2 c = search needs
 
 returns-2 : tie.Need-returns-2
 returns-2 c =
@@ -41,11 +26,11 @@ pub put-state-spec : {M : Type 1} → statement M
 put-state-spec =
     tie.close
     (tie.spec
-    enum-told
-    put-zeros-requires
-    enum-known-s
+    (λ c. search needs)
+    (λ c κs. search needs)
+    (λ c. search needs)
     put-reported-requires
-    same-length
+    (λ c. search needs)
     returns
-    same-length-2
+    (λ c. search needs)
     returns-2)

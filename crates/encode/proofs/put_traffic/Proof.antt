@@ -3,21 +3,6 @@ use borrow.Author.Needs.{needs}
 use Rattle.encode.proofs.put_traffic.Statement.{statement}
 use Rattle.encode.proofs.put_traffic.Tie as tie
 
-put-values-requires : tie.Need-put-values-requires
-put-values-requires c κs = search needs
-
-put-values-requires-2 : tie.Need-put-values-requires-2
-put-values-requires-2 c κs = search needs
-
-put-position-requires : tie.Need-put-position-requires
-put-position-requires c κs = search needs
-
-put-position-requires-2 : tie.Need-put-position-requires-2
-put-position-requires-2 c κs = search needs
-
-same-length : tie.Need-same-length
-same-length c = search needs
-
 returns : tie.Need-returns
 returns c =
     let p4 = c .before .before in
@@ -31,9 +16,9 @@ pub put-traffic-spec : {M : Type 1} → statement M
 put-traffic-spec =
     tie.close
     (tie.spec
-    put-values-requires
-    put-values-requires-2
-    put-position-requires
-    put-position-requires-2
-    same-length
+    (λ c κs. search needs)
+    (λ c κs. search needs)
+    (λ c κs. search needs)
+    (λ c κs. search needs)
+    (λ c. search needs)
     returns)

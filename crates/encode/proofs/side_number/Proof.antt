@@ -5,12 +5,6 @@ use borrow.Author.Needs.{needs}
 use Rattle.encode.proofs.side_number.Statement.{statement}
 use Rattle.encode.proofs.side_number.Tie as tie
 
-enum-told : tie.Need-enum-told
-enum-told c = search needs
-
-enum-told-2 : tie.Need-enum-told-2
-enum-told-2 c = search needs
-
 returns : tie.Need-returns
 returns c = (sym (ap sideNumber (c .enum-told .given .1)), omega arith)
 
@@ -18,4 +12,4 @@ returns-2 : tie.Need-returns-2
 returns-2 c = (sym (ap sideNumber (c .enum-told2 .given .1)), omega arith)
 
 pub side-number-spec : {M : Type 1} → statement M
-side-number-spec = tie.close (tie.spec enum-told enum-told-2 returns returns-2)
+side-number-spec = tie.close (tie.spec (λ c. search needs) (λ c. search needs) returns returns-2)

@@ -11,18 +11,6 @@ use borrow.Author.Needs.{needs}
 use Rattle.encode.proofs.write.Statement.{statement}
 use Rattle.encode.proofs.write.Tie as tie
 
-put-traffic-requires : tie.Need-put-traffic-requires
-put-traffic-requires c κs = search needs
-
-put-placements-requires : tie.Need-put-placements-requires
-put-placements-requires c κs = search needs
-
-put-placements-requires-2 : tie.Need-put-placements-requires-2
-put-placements-requires-2 c κs = search needs
-
-put-states-requires : tie.Need-put-states-requires
-put-states-requires c κs = search needs
-
 put-counts-requires : tie.Need-put-counts-requires
 put-counts-requires c κs =
     let p4 = c .before .before .before in
@@ -33,9 +21,6 @@ put-counts-requires c κs =
     let m = limit-length (a .ultimate) in
     let both = length-append (limitNumbers (a .service)) (limitNumbers (a .ultimate)) in
     (omega (arith, p4 .put-states .ensures .ends), s .pre .1 .lanes)
-
-same-length : tie.Need-same-length
-same-length c = search needs
 
 returns : tie.Need-returns
 returns c =
@@ -56,10 +41,10 @@ pub write-spec : {M : Type 1} → statement M
 write-spec =
     tie.close
     (tie.spec
-    put-traffic-requires
-    put-placements-requires
-    put-placements-requires-2
-    put-states-requires
+    (λ c κs. search needs)
+    (λ c κs. search needs)
+    (λ c κs. search needs)
+    (λ c κs. search needs)
     put-counts-requires
-    same-length
+    (λ c. search needs)
     returns)

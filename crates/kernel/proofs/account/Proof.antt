@@ -12,9 +12,6 @@ use borrow.Author.Needs.{needs}
 use Rattle.kernel.proofs.account.Statement.{statement}
 use Rattle.kernel.proofs.account.Tie as tie
 
-sought-requires : tie.Need-sought-requires
-sought-requires c κs = search needs
-
 values-requires : tie.Need-values-requires
 values-requires c κs =
     let s = c .before .before .sought .ensures in
@@ -64,4 +61,4 @@ returns c =
     }
 
 pub account-spec : {M : Type 1} → statement M
-account-spec = tie.close (tie.spec sought-requires values-requires limit-states-requires returns)
+account-spec = tie.close (tie.spec (λ c κs. search needs) values-requires limit-states-requires returns)

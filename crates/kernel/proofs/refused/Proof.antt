@@ -2,11 +2,8 @@ use borrow.Author.Needs.{needs}
 use Rattle.kernel.proofs.refused.Statement.{statement}
 use Rattle.kernel.proofs.refused.Tie as tie
 
-no-traffic-requires : tie.Need-no-traffic-requires
-no-traffic-requires c κs = search needs
-
 returns : tie.Need-returns
 returns c = cc
 
 pub refused-spec : {M : Type 1} → statement M
-refused-spec = tie.close (tie.spec no-traffic-requires returns)
+refused-spec = tie.close (tie.spec (λ c κs. search needs) returns)

@@ -2,7 +2,7 @@ use mathlib.Core.Path.{_≡_, refl, sym, _∙_, ap, subst}
 use mathlib.Core.Bool.{Bool}
 use mathlib.Core.Option.{Option, none, some}
 use mathlib.Core.List.{List, _++_}
-use Prim.Native.Nat.{ℕ, _≤_}
+use Prim.Native.Nat.{ℕ}
 use native.Mathlib.Omega.{arith}
 use borrow.Author.Tests.{ne-eqb, eq-eqb}
 use lib.Dec.{eqb}
@@ -14,7 +14,6 @@ use Rattle.model.specs.Line.{patchBytes}
 use Rattle.model.specs.Refusals.{Refusal, verdict}
 use Rattle.model.specs.Answered.{Answered, refused, refusalAnswer, accepted, AccountRight}
 use Rattle.model.specs.declared.Account.{Account}
-use Rattle.model.specs.declared.Answer.{Answer}
 use Rattle.model.specs.declared.Header.{Header}
 use Rattle.model.specs.declared.Part.the-variants.{Line}
 use Rattle.model.proofs.Verdict.{clear, has-header, job-refuses, short-refused, long-accepted}
@@ -36,12 +35,6 @@ is-refused r n e = sym e ∙ ap (λ (t : Bool). if t then none else some (record
 is-accepted : (r : Ruling) {v : Option Refusal} → r .number ≡ 0 → (if eqb (r .number) 0 then none else some (record { number = r .number; place = r .place })) ≡ v → v ≡ none
 is-accepted r n e = sym e ∙ ap (λ (t : Bool). if t then none else some (record { number = r .number; place = r .place })) (eq-eqb (r .number) 0 n)
 
-verdict-requires : tie.Need-verdict-requires
-verdict-requires c κs = search needs
-
-refused-requires : tie.Need-refused-requires
-refused-requires c κs = search needs
-
 returns : tie.Need-returns
 returns c =
     let v = c .before .before .before .verdict in
@@ -60,9 +53,6 @@ module _ (c : tie.After-read) where
 
   pieces : c .read .result .pieces ≡ headerOf (st .args .job .now) .pieces
   pieces = ap (λ (h : Header). h .pieces) (c .read .ensures)
-
-refused-requires-2 : tie.Need-refused-requires-2
-refused-requires-2 c κs = search needs
 
 returns-2 : tie.Need-returns-2
 returns-2 c =
@@ -97,9 +87,6 @@ mark-requires c κs =
     let fits = subst (λ (l : List ℕ). LineFits l (d .read .result .pieces)) (sym (c .before .section .ensures)) (line-fits (ready d)) in
     (fits-fewer fits (omega arith), omega (arith, c .before .before .before .if2 .left))
 
-same-length : tie.Need-same-length
-same-length c = search needs
-
 returns-3 : tie.Need-returns-3
 returns-3 c =
     let a = c .before .before .before .before .before in
@@ -111,14 +98,14 @@ pub solve-spec : {M : Type 1} → statement M
 solve-spec =
     tie.close
     (tie.spec
-    verdict-requires
-    refused-requires
+    (λ c κs. search needs)
+    (λ c κs. search needs)
     returns
     read-requires
-    refused-requires-2
+    (λ c κs. search needs)
     returns-2
     account-requires
     section-requires
     mark-requires
-    same-length
+    (λ c. search needs)
     returns-3)

@@ -14,7 +14,6 @@ use Rattle.lanes.specs.Loadings.{LineEffectsFit, effectsOf}
 use Rattle.lanes.specs.declared.traffic.Effects.{Effects}
 use Rattle.kernel.proofs.Fits.{sized, across-fits, dynamic-limits, dynamic}
 use Rattle.kernel.proofs.Loads.{handed, effects-are, effects-fit, wider, spanned, factor-is}
-use borrow.Author.Needs.{needs}
 use Rattle.kernel.proofs.values.Statement.{statement}
 use Rattle.kernel.proofs.values.Tie as tie
 

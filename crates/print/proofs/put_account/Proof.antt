@@ -4,33 +4,6 @@ use borrow.Author.Needs.{needs}
 use Rattle.print.proofs.put_account.Statement.{statement}
 use Rattle.print.proofs.put_account.Tie as tie
 
-slice-aggregate-put-traffic : tie.Need-slice-aggregate-put-traffic
-slice-aggregate-put-traffic c = search needs
-
-put-traffic-requires : tie.Need-put-traffic-requires
-put-traffic-requires c κs = search needs
-
-slice-aggregate-put-traffic-2 : tie.Need-slice-aggregate-put-traffic-2
-slice-aggregate-put-traffic-2 c = search needs
-
-put-traffic-requires-2 : tie.Need-put-traffic-requires-2
-put-traffic-requires-2 c κs = search needs
-
-slice-aggregate-put-state : tie.Need-slice-aggregate-put-state
-slice-aggregate-put-state c = search needs
-
-put-state-requires : tie.Need-put-state-requires
-put-state-requires c κs = search needs
-
-slice-aggregate-put-state-2 : tie.Need-slice-aggregate-put-state-2
-slice-aggregate-put-state-2 c = search needs
-
-put-state-requires-2 : tie.Need-put-state-requires-2
-put-state-requires-2 c κs = search needs
-
-same-length : tie.Need-same-length
-same-length c = search needs
-
 returns : tie.Need-returns
 returns c =
     let p4 = c .before .before in
@@ -45,13 +18,13 @@ pub put-account-spec : {M : Type 1} → statement M
 put-account-spec =
     tie.close
     (tie.spec
-    slice-aggregate-put-traffic
-    put-traffic-requires
-    slice-aggregate-put-traffic-2
-    put-traffic-requires-2
-    slice-aggregate-put-state
-    put-state-requires
-    slice-aggregate-put-state-2
-    put-state-requires-2
-    same-length
+    (λ c. search needs)
+    (λ c κs. search needs)
+    (λ c. search needs)
+    (λ c κs. search needs)
+    (λ c. search needs)
+    (λ c κs. search needs)
+    (λ c. search needs)
+    (λ c κs. search needs)
+    (λ c. search needs)
     returns)

@@ -8,18 +8,6 @@ use borrow.Author.Needs.{needs}
 use Rattle.print.proofs.put_governing.Statement.{statement}
 use Rattle.print.proofs.put_governing.Tie as tie
 
-put-value-requires : tie.Need-put-value-requires
-put-value-requires c κs = search needs
-
-slice-aggregate-put-number : tie.Need-slice-aggregate-put-number
-slice-aggregate-put-number c = search needs
-
-put-number-requires : tie.Need-put-number-requires
-put-number-requires c κs = search needs
-
-same-length : tie.Need-same-length
-same-length c = search needs
-
 returns : tie.Need-returns
 returns c =
     let p2 = c .before .before in
@@ -35,8 +23,8 @@ pub put-governing-spec : {M : Type 1} → statement M
 put-governing-spec =
     tie.close
     (tie.spec
-    put-value-requires
-    slice-aggregate-put-number
-    put-number-requires
-    same-length
+    (λ c κs. search needs)
+    (λ c. search needs)
+    (λ c κs. search needs)
+    (λ c. search needs)
     returns)

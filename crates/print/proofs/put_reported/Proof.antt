@@ -4,27 +4,6 @@ use borrow.Author.Needs.{needs}
 use Rattle.print.proofs.put_reported.Statement.{statement}
 use Rattle.print.proofs.put_reported.Tie as tie
 
-slice-aggregate-put-governing : tie.Need-slice-aggregate-put-governing
-slice-aggregate-put-governing c = search needs
-
-put-governing-requires : tie.Need-put-governing-requires
-put-governing-requires c κs = search needs
-
-slice-aggregate-put-governing-2 : tie.Need-slice-aggregate-put-governing-2
-slice-aggregate-put-governing-2 c = search needs
-
-put-governing-requires-2 : tie.Need-put-governing-requires-2
-put-governing-requires-2 c κs = search needs
-
-slice-aggregate-put-bytes : tie.Need-slice-aggregate-put-bytes
-slice-aggregate-put-bytes c = search needs
-
-put-bytes-requires : tie.Need-put-bytes-requires
-put-bytes-requires c κs = search needs
-
-same-length : tie.Need-same-length
-same-length c = search needs
-
 returns : tie.Need-returns
 returns c =
     let p3 = c .before .before in
@@ -38,11 +17,11 @@ pub put-reported-spec : {M : Type 1} → statement M
 put-reported-spec =
     tie.close
     (tie.spec
-    slice-aggregate-put-governing
-    put-governing-requires
-    slice-aggregate-put-governing-2
-    put-governing-requires-2
-    slice-aggregate-put-bytes
-    put-bytes-requires
-    same-length
+    (λ c. search needs)
+    (λ c κs. search needs)
+    (λ c. search needs)
+    (λ c κs. search needs)
+    (λ c. search needs)
+    (λ c κs. search needs)
+    (λ c. search needs)
     returns)

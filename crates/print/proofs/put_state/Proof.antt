@@ -6,27 +6,6 @@ use borrow.Author.Needs.{needs}
 use Rattle.print.proofs.put_state.Statement.{statement}
 use Rattle.print.proofs.put_state.Tie as tie
 
-put-bytes-requires : tie.Need-put-bytes-requires
-put-bytes-requires c κs = search needs
-
-enum-told : tie.Need-enum-told
-enum-told c = search needs
-
-slice-aggregate-put-bytes : tie.Need-slice-aggregate-put-bytes
-slice-aggregate-put-bytes c = search needs
-
-put-bytes-requires-2 : tie.Need-put-bytes-requires-2
-put-bytes-requires-2 c κs = search needs
-
-enum-known-s : tie.Need-enum-known-s
-enum-known-s c = search needs
-
-put-reported-requires : tie.Need-put-reported-requires
-put-reported-requires c κs = search needs
-
-same-length : tie.Need-same-length
-same-length c = search needs
-
 returns : tie.Need-returns
 returns c =
     let p2 = c .before .before in
@@ -34,9 +13,6 @@ returns c =
       retold (ap (stateLine _) (sym (p2 .before .before .before .enum-told .given .1))) (and-then (p1 .put-bytes .ensures) (p2 .put-bytes2 .ensures)),
       omega (arith, p1 .put-bytes .ensures .ends, p2 .put-bytes2 .ensures .ends),
     )
-
-same-length-2 : tie.Need-same-length-2
-same-length-2 c = search needs
 
 returns-2 : tie.Need-returns-2
 returns-2 c =
@@ -50,13 +26,13 @@ pub put-state-spec : {M : Type 1} → statement M
 put-state-spec =
     tie.close
     (tie.spec
-    put-bytes-requires
-    enum-told
-    slice-aggregate-put-bytes
-    put-bytes-requires-2
-    enum-known-s
-    put-reported-requires
-    same-length
+    (λ c κs. search needs)
+    (λ c. search needs)
+    (λ c. search needs)
+    (λ c κs. search needs)
+    (λ c. search needs)
+    (λ c κs. search needs)
+    (λ c. search needs)
     returns
-    same-length-2
+    (λ c. search needs)
     returns-2)

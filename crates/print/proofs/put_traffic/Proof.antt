@@ -8,30 +8,6 @@ use borrow.Author.Needs.{needs}
 use Rattle.print.proofs.put_traffic.Statement.{statement}
 use Rattle.print.proofs.put_traffic.Tie as tie
 
-put-bytes-requires : tie.Need-put-bytes-requires
-put-bytes-requires c κs = search needs
-
-slice-aggregate-put-value : tie.Need-slice-aggregate-put-value
-slice-aggregate-put-value c = search needs
-
-put-value-requires : tie.Need-put-value-requires
-put-value-requires c κs = search needs
-
-slice-aggregate-put-value-2 : tie.Need-slice-aggregate-put-value-2
-slice-aggregate-put-value-2 c = search needs
-
-put-value-requires-2 : tie.Need-put-value-requires-2
-put-value-requires-2 c κs = search needs
-
-slice-aggregate-put-bytes : tie.Need-slice-aggregate-put-bytes
-slice-aggregate-put-bytes c = search needs
-
-put-bytes-requires-2 : tie.Need-put-bytes-requires-2
-put-bytes-requires-2 c κs = search needs
-
-same-length : tie.Need-same-length
-same-length c = search needs
-
 returns : tie.Need-returns
 returns c =
     let p4 = c .before .before in
@@ -51,12 +27,12 @@ pub put-traffic-spec : {M : Type 1} → statement M
 put-traffic-spec =
     tie.close
     (tie.spec
-    put-bytes-requires
-    slice-aggregate-put-value
-    put-value-requires
-    slice-aggregate-put-value-2
-    put-value-requires-2
-    slice-aggregate-put-bytes
-    put-bytes-requires-2
-    same-length
+    (λ c κs. search needs)
+    (λ c. search needs)
+    (λ c κs. search needs)
+    (λ c. search needs)
+    (λ c κs. search needs)
+    (λ c. search needs)
+    (λ c κs. search needs)
+    (λ c. search needs)
     returns)

@@ -5,16 +5,10 @@ use borrow.Author.Needs.{needs}
 use Rattle.print.proofs.text.Statement.{statement}
 use Rattle.print.proofs.text.Tie as tie
 
-put-refusal-requires : tie.Need-put-refusal-requires
-put-refusal-requires c κs = search needs
-
 returns : tie.Need-returns
 returns c =
     let a = c .before .before .before .before .args .a in
     at-start (retold (refused a (c .before .before .if1 .taken)) (c .put-refusal .ensures .0)) (omega arith)
-
-put-account-requires : tie.Need-put-account-requires
-put-account-requires c κs = search needs
 
 returns-2 : tie.Need-returns-2
 returns-2 c =
@@ -22,4 +16,4 @@ returns-2 c =
     at-start (retold (accepted a (c .before .before .before .if1 .left)) (c .put-account .ensures .0)) (omega arith)
 
 pub text-spec : {M : Type 1} → statement M
-text-spec = tie.close (tie.spec put-refusal-requires returns put-account-requires returns-2)
+text-spec = tie.close (tie.spec (λ c κs. search needs) returns (λ c κs. search needs) returns-2)

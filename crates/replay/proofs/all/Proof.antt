@@ -15,12 +15,6 @@ loop-holds c = tt
 one-requires : tie.Need-one-requires Inv-loop μ-loop
 one-requires c κs = tt
 
-sub-left : tie.Need-sub-left Inv-loop μ-loop
-sub-left c = omega arith
-
-loop-less : tie.Need-loop-less Inv-loop μ-loop
-loop-less c = omega arith
-
 loop-again : tie.Need-loop-again Inv-loop μ-loop
 loop-again c = tt
 
@@ -31,4 +25,4 @@ returns-2 : tie.Need-returns-2 Inv-loop μ-loop
 returns-2 c = tt
 
 pub all-spec : {M : Type 1} → statement M
-all-spec = tie.close (tie.spec Inv-loop μ-loop loop-holds one-requires sub-left loop-less loop-again returns returns-2)
+all-spec = tie.close (tie.spec Inv-loop μ-loop loop-holds one-requires (λ c. omega arith) (λ c. omega arith) loop-again returns returns-2)

@@ -13,24 +13,6 @@ abbrev μ-loop : tie.MeasureT-loop
 loop-holds : tie.Need-loop-holds Inv-loop μ-loop
 loop-holds c = (omega arith, omega arith)
 
-add-weighed : tie.Need-add-weighed Inv-loop μ-loop
-add-weighed c = omega arith
-
-shared-slice-read-weighed : tie.Need-shared-slice-read-weighed Inv-loop μ-loop
-shared-slice-read-weighed c = omega arith
-
-weighed-requires : tie.Need-weighed-requires Inv-loop μ-loop
-weighed-requires c κs = omega arith
-
-add-sum : tie.Need-add-sum Inv-loop μ-loop
-add-sum c = omega arith
-
-add-i : tie.Need-add-i Inv-loop μ-loop
-add-i c = omega arith
-
-loop-less : tie.Need-loop-less Inv-loop μ-loop
-loop-less c = omega arith
-
 loop-again : tie.Need-loop-again Inv-loop μ-loop
 loop-again c = (omega arith, omega arith)
 
@@ -44,11 +26,11 @@ weighted-sum-spec =
     Inv-loop
     μ-loop
     loop-holds
-    add-weighed
-    shared-slice-read-weighed
-    weighed-requires
-    add-sum
-    add-i
-    loop-less
+    (λ c. omega arith)
+    (λ c. omega arith)
+    (λ c κs. omega arith)
+    (λ c. omega arith)
+    (λ c. omega arith)
+    (λ c. omega arith)
     loop-again
     returns)

@@ -6,18 +6,9 @@ use borrow.Author.Needs.{needs}
 use Rattle.words.proofs.word32.Statement.{statement}
 use Rattle.words.proofs.word32.Tie as tie
 
-mul-bits-at : tie.Need-mul-bits-at
-mul-bits-at c = search needs
-
-bits-at-requires : tie.Need-bits-at-requires
-bits-at-requires c κs = search needs
-
-to-signed-requires : tie.Need-to-signed-requires
-to-signed-requires c κs = search needs
-
 returns : tie.Need-returns
 unfolding wordAt
 returns c = back w32 (c .to-signed .ok) (c .to-signed .ensures ∙ ap signed32 (c .before .bits-at .ensures))
 
 pub word32-spec : {M : Type 1} → statement M
-word32-spec = tie.close (tie.spec mul-bits-at bits-at-requires to-signed-requires returns)
+word32-spec = tie.close (tie.spec (λ c. search needs) (λ c κs. search needs) (λ c κs. search needs) returns)

@@ -52,12 +52,6 @@ module _ (c : tie.In-loop Inv-loop μ-loop) where
   count : st .args .head .records ≡ headerOf b .records
   count = ap (λ (h : Header). h .records) (st .pre .0 .own)
 
-mul-count : tie.Need-mul-count Inv-loop μ-loop
-mul-count c = omega arith
-
-add-count : tie.Need-add-count Inv-loop μ-loop
-add-count c = omega arith
-
 count-requires : tie.Need-count-requires Inv-loop μ-loop
 count-requires c κs = omega (arith, ap length (c .before .before .before .section .ensures), part-length (st c .pre .0) Rows, here c)
 
@@ -76,20 +70,11 @@ found c {t} e =
     let p = passes (b d) (i d) (d .before .before .section2 .ensures) (first (c .before)) (count d) (st d .args .defect) (c .is-defective .ensures) in
     rw (p, e) (by-test t (λ t. moved (4 * i d) (if not t then none else some 0) ≡ (if t then some (4 * i d) else none)) (λ _. ap some (add-zero (4 * i d))) (λ _. refl))
 
-mul-t14 : tie.Need-mul-t14 Inv-loop μ-loop
-mul-t14 c = omega arith
-
 returns : tie.Need-returns Inv-loop μ-loop
 unfolding misfit
 returns c =
     let d = c .before .before .before in
     sym (search-found (d .before .loop .inv) (here d) (found (c .before) (c .if1 .taken)))
-
-add-i : tie.Need-add-i Inv-loop μ-loop
-add-i c = omega arith
-
-loop-less : tie.Need-loop-less Inv-loop μ-loop
-loop-less c = omega arith
 
 loop-again : tie.Need-loop-again Inv-loop μ-loop
 loop-again c = let d = c .before .before .before in search-goes-on (d .before .loop .inv) (here d) (found (c .before) (c .if1 .left))
@@ -109,13 +94,13 @@ first-row-spec =
     section-requires
     section-requires-2
     loop-holds
-    mul-count
-    add-count
+    (λ c. omega arith)
+    (λ c. omega arith)
     count-requires
     is-defective-requires
-    mul-t14
+    (λ c. omega arith)
     returns
-    add-i
-    loop-less
+    (λ c. omega arith)
+    (λ c. omega arith)
     loop-again
     returns-2)

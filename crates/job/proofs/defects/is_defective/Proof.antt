@@ -8,18 +8,6 @@ use borrow.Author.Needs.{needs}
 use Rattle.job.proofs.defects.is_defective.Statement.{statement}
 use Rattle.job.proofs.defects.is_defective.Tie as tie
 
-enum-told : tie.Need-enum-told
-enum-told c = search needs
-
-ends-requires : tie.Need-ends-requires
-ends-requires c κs = search needs
-
-enum-told-2 : tie.Need-enum-told-2
-enum-told-2 c = search needs
-
-names-twice-requires : tie.Need-names-twice-requires
-names-twice-requires c κs = search needs
-
 returns : tie.Need-returns
 returns c =
     let st = c .before .before .before .before in
@@ -34,4 +22,4 @@ returns-2 c =
 
 pub is-defective-spec : {M : Type 1} → statement M
 is-defective-spec =
-    tie.close (tie.spec enum-told ends-requires enum-told-2 names-twice-requires returns returns-2)
+    tie.close (tie.spec (λ c. search needs) (λ c κs. search needs) (λ c. search needs) (λ c κs. search needs) returns returns-2)

@@ -6,28 +6,16 @@ use Rattle.job.proofs.Words.{is-failed}
 use Rattle.job.proofs.limits.dynamic_fits.Statement.{statement}
 use Rattle.job.proofs.limits.dynamic_fits.Tie as tie
 
-word-requires : tie.Need-word-requires
-word-requires c κs = search needs
-
-in-range-requires : tie.Need-in-range-requires
-in-range-requires c κs = search needs
-
 returns : tie.Need-returns
 returns c =
     let e1 = c .before in
     rw (eq-yes (got w64 (e1 .before .word .ok) (e1 .before .word .ensures)) (lit w64 1 (lit< tt)) (e1 .if1 .taken)) (c .in-range .ensures)
-
-in-range-requires-2 : tie.Need-in-range-requires-2
-in-range-requires-2 c κs = search needs
 
 returns-2 : tie.Need-returns-2
 returns-2 c =
     let e2 = c .before in
     let e1 = e2 .before in
     rw (eq-yes (got w64 (e1 .before .word .ok) (e1 .before .word .ensures)) (lit w64 2 (lit< tt)) (e2 .if2 .taken)) (c .in-range2 .ensures)
-
-in-range-requires-3 : tie.Need-in-range-requires-3
-in-range-requires-3 c κs = search needs
 
 returns-3 : tie.Need-returns-3
 returns-3 c =
@@ -39,10 +27,10 @@ pub dynamic-fits-spec : {M : Type 1} → statement M
 dynamic-fits-spec =
     tie.close
     (tie.spec
-    word-requires
-    in-range-requires
+    (λ c κs. search needs)
+    (λ c κs. search needs)
     returns
-    in-range-requires-2
+    (λ c κs. search needs)
     returns-2
-    in-range-requires-3
+    (λ c κs. search needs)
     returns-3)

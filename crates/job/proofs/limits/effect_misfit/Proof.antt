@@ -5,24 +5,6 @@ use borrow.Author.Needs.{needs}
 use Rattle.job.proofs.limits.effect_misfit.Statement.{statement}
 use Rattle.job.proofs.limits.effect_misfit.Tie as tie
 
-mul-p : tie.Need-mul-p
-mul-p c = search needs
-
-add-in-range : tie.Need-add-in-range
-add-in-range c = search needs
-
-in-range-requires : tie.Need-in-range-requires
-in-range-requires c κs = search needs
-
-field-requires : tie.Need-field-requires
-field-requires c κs = search needs
-
-within-requires : tie.Need-within-requires
-within-requires c κs = search needs
-
-field-requires-2 : tie.Need-field-requires-2
-field-requires-2 c κs = search needs
-
 returns : tie.Need-returns
 returns c =
     rw (
@@ -38,10 +20,10 @@ pub effect-misfit-spec : {M : Type 1} → statement M
 effect-misfit-spec =
     tie.close
     (tie.spec
-    mul-p
-    add-in-range
-    in-range-requires
-    field-requires
-    within-requires
-    field-requires-2
+    (λ c. search needs)
+    (λ c. search needs)
+    (λ c κs. search needs)
+    (λ c κs. search needs)
+    (λ c κs. search needs)
+    (λ c κs. search needs)
     returns)

@@ -3,11 +3,8 @@ use borrow.Author.Needs.{needs}
 use Rattle.job.proofs.limits.field.Statement.{statement}
 use Rattle.job.proofs.limits.field.Tie as tie
 
-returns : tie.Need-returns
-returns c = search needs
-
 returns-2 : tie.Need-returns-2
 returns-2 c = rw (c .if1 .left) refl
 
 pub field-spec : {M : Type 1} → statement M
-field-spec = tie.close (tie.spec returns returns-2)
+field-spec = tie.close (tie.spec (λ c. search needs) returns-2)

@@ -9,9 +9,6 @@ use Rattle.job.proofs.Words.{range-below, range-above, range-short}
 use Rattle.job.proofs.limits.in_range.Statement.{statement}
 use Rattle.job.proofs.limits.in_range.Tie as tie
 
-word-requires : tie.Need-word-requires
-word-requires c κs = search needs
-
 returns : tie.Need-returns
 returns c =
     let a = c .before .before .before .args in
@@ -38,4 +35,4 @@ returns-3 c =
     range-short (a .lo) (a .hi) (wordAt (a .s .now) (a .p)) e (omega (arith, index-is w e))
 
 pub in-range-spec : {M : Type 1} → statement M
-in-range-spec = tie.close (tie.spec word-requires returns cast-n returns-2 returns-3)
+in-range-spec = tie.close (tie.spec (λ c κs. search needs) returns cast-n returns-2 returns-3)

@@ -12,48 +12,30 @@ use Rattle.job.proofs.limits.item_misfit.Tie as tie
 inside : (st : tie.Start) {part : Part} → st .args .part ≡ part → (st .args .i < format (st .args .head) part .items) × (4 * words (st .args .head) part ≤ length (st .args .s .now))
 inside st e = subst (λ (part : Part). (st .args .i < format (st .args .head) part .items) × (4 * words (st .args .head) part ≤ length (st .args .s .now))) e (st .pre)
 
-enum-told : tie.Need-enum-told
-enum-told c = search needs
-
 header-misfit-requires : tie.Need-header-misfit-requires
 header-misfit-requires c κs =
     let h = inside (c .before .before .before) (c .enum-told .given .1) in
     omega arith
-
-enum-told-2 : tie.Need-enum-told-2
-enum-told-2 c = search needs
 
 piece-misfit-requires : tie.Need-piece-misfit-requires
 piece-misfit-requires c κs =
     let h = inside (c .before .before .before) (c .enum-told2 .given .1) in
     omega arith
 
-enum-told-3 : tie.Need-enum-told-3
-enum-told-3 c = search needs
-
 transverse-misfit-requires : tie.Need-transverse-misfit-requires
 transverse-misfit-requires c κs =
     let h = inside (c .before .before .before) (c .enum-told3 .given .1) in
     omega arith
-
-enum-told-4 : tie.Need-enum-told-4
-enum-told-4 c = search needs
 
 effect-misfit-requires : tie.Need-effect-misfit-requires
 effect-misfit-requires c κs =
     let h = inside (c .before .before .before) (c .enum-told4 .given .1) in
     omega arith
 
-enum-told-5 : tie.Need-enum-told-5
-enum-told-5 c = search needs
-
 row-misfit-requires : tie.Need-row-misfit-requires
 row-misfit-requires c κs =
     let h = inside (c .before .before .before) (c .enum-told5 .given .1) in
     omega arith
-
-enum-told-6 : tie.Need-enum-told-6
-enum-told-6 c = search needs
 
 record-misfit-requires : tie.Need-record-misfit-requires
 record-misfit-requires c κs =
@@ -85,17 +67,17 @@ pub item-misfit-spec : {M : Type 1} → statement M
 item-misfit-spec =
     tie.close
     (tie.spec
-    enum-told
+    (λ c. search needs)
     header-misfit-requires
-    enum-told-2
+    (λ c. search needs)
     piece-misfit-requires
-    enum-told-3
+    (λ c. search needs)
     transverse-misfit-requires
-    enum-told-4
+    (λ c. search needs)
     effect-misfit-requires
-    enum-told-5
+    (λ c. search needs)
     row-misfit-requires
-    enum-told-6
+    (λ c. search needs)
     record-misfit-requires
     returns
     returns-2

@@ -7,9 +7,6 @@ use Rattle.job.proofs.Words.{is-failed}
 use Rattle.job.proofs.limits.length_fits.Statement.{statement}
 use Rattle.job.proofs.limits.length_fits.Tie as tie
 
-word-requires : tie.Need-word-requires
-word-requires c κs = search needs
-
 returns : tie.Need-returns
 returns c = rw (eq-yes (got w64 (c .before .word .ok) (c .before .word .ensures)) (lit w64 1 (lit< tt)) (c .if1 .taken)) refl
 
@@ -45,7 +42,7 @@ pub length-fits-spec : {M : Type 1} → statement M
 length-fits-spec =
     tie.close
     (tie.spec
-    word-requires
+    (λ c κs. search needs)
     returns
     returns-2
     returns-3

@@ -7,9 +7,6 @@ use Rattle.job.proofs.Words.{is-failed}
 use Rattle.job.proofs.limits.live_limit.Statement.{statement}
 use Rattle.job.proofs.limits.live_limit.Tie as tie
 
-word-requires : tie.Need-word-requires
-word-requires c κs = search needs
-
 returns : tie.Need-returns
 returns c = rw (eq-yes (got w64 (c .before .word .ok) (c .before .word .ensures)) (lit w64 0 (lit< tt)) (c .if1 .taken)) refl
 
@@ -17,4 +14,4 @@ returns-2 : tie.Need-returns-2
 returns-2 c = rw (is-failed 0 (c .before .word .ensures .0) (c .if1 .left)) refl
 
 pub live-limit-spec : {M : Type 1} → statement M
-live-limit-spec = tie.close (tie.spec word-requires returns returns-2)
+live-limit-spec = tie.close (tie.spec (λ c κs. search needs) returns returns-2)

@@ -18,20 +18,11 @@ Inv-loop s head part i₀ i-end i = Searched (itemMisfit (format head part .fiel
 abbrev μ-loop : tie.MeasureT-loop
 μ-loop s head part i₀ i-end i = i-end - i
 
-items-requires : tie.Need-items-requires Inv-loop μ-loop
-items-requires c κs = search needs
-
 loop-holds : tie.Need-loop-holds Inv-loop μ-loop
 loop-holds c = search-begins _ _
 
 item-misfit-requires : tie.Need-item-misfit-requires Inv-loop μ-loop
 item-misfit-requires c κs = (omega (arith, c .before .before .items .ensures .0), c .before .before .before .before .pre .1)
-
-enum-known-fault : tie.Need-enum-known-fault Inv-loop μ-loop
-enum-known-fault c = search needs
-
-item-words-requires : tie.Need-item-words-requires Inv-loop μ-loop
-item-words-requires c κs = search needs
 
 -- the place at fault, where item i has one: as the code adds it up
 module _ (c : tie.After-item-words Inv-loop μ-loop) where
@@ -65,15 +56,6 @@ add-t11 c = omega (arith, small c)
 returns : tie.Need-returns Inv-loop μ-loop
 returns c = sym (found c)
 
-enum-told : tie.Need-enum-told Inv-loop μ-loop
-enum-told c = search needs
-
-add-i : tie.Need-add-i Inv-loop μ-loop
-add-i c = omega arith
-
-loop-less : tie.Need-loop-less Inv-loop μ-loop
-loop-less c = omega arith
-
 loop-again : tie.Need-loop-again Inv-loop μ-loop
 loop-again c =
     let k = c .before .before in
@@ -92,16 +74,16 @@ misfit-spec =
     (tie.spec
     Inv-loop
     μ-loop
-    items-requires
+    (λ c κs. search needs)
     loop-holds
     item-misfit-requires
-    enum-known-fault
-    item-words-requires
+    (λ c. search needs)
+    (λ c κs. search needs)
     mul-t10
     add-t11
     returns
-    enum-told
-    add-i
-    loop-less
+    (λ c. search needs)
+    (λ c. omega arith)
+    (λ c. omega arith)
     loop-again
     returns-2)

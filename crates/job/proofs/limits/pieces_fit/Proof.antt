@@ -6,15 +6,6 @@ use Rattle.exact.proofs.Held.{got, times, times! }
 use Rattle.job.proofs.limits.pieces_fit.Statement.{statement}
 use Rattle.job.proofs.limits.pieces_fit.Tie as tie
 
-in-range-requires : tie.Need-in-range-requires
-in-range-requires c κs = search needs
-
-word-requires : tie.Need-word-requires
-word-requires c κs = search needs
-
-word-requires-2 : tie.Need-word-requires-2
-word-requires-2 c κs = search needs
-
 mul-result : tie.Need-mul-result
 mul-result c = times! (got w64 (c .before .word .ok) (c .before .word .ensures)) (got w64 (c .word2 .ok) (c .word2 .ensures)) (lit< tt)
 
@@ -31,9 +22,9 @@ pub pieces-fit-spec : {M : Type 1} → statement M
 pieces-fit-spec =
     tie.close
     (tie.spec
-    in-range-requires
-    word-requires
-    word-requires-2
+    (λ c κs. search needs)
+    (λ c κs. search needs)
+    (λ c κs. search needs)
     mul-result
     returns
     returns-2)

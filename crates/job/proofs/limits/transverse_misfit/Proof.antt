@@ -5,12 +5,6 @@ use borrow.Author.Needs.{needs}
 use Rattle.job.proofs.limits.transverse_misfit.Statement.{statement}
 use Rattle.job.proofs.limits.transverse_misfit.Tie as tie
 
-within-requires : tie.Need-within-requires
-within-requires c κs = search needs
-
-field-requires : tie.Need-field-requires
-field-requires c κs = search needs
-
 returns : tie.Need-returns
 returns c =
     let i = c .before .before .before .args .i in
@@ -18,4 +12,4 @@ returns c =
     rw (c .field .ensures, c .before .within .ensures, first) refl
 
 pub transverse-misfit-spec : {M : Type 1} → statement M
-transverse-misfit-spec = tie.close (tie.spec within-requires field-requires returns)
+transverse-misfit-spec = tie.close (tie.spec (λ c κs. search needs) (λ c κs. search needs) returns)

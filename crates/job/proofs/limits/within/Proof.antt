@@ -14,12 +14,6 @@ use Rattle.job.proofs.limits.within.Tie as tie
 sub-is-between : tie.Need-sub-is-between
 sub-is-between c = minus! (lit w64 0 (lit< tt)) (arg (c .before .fits .m) (c .before .pre .1)) (lit< tt)
 
-word-requires : tie.Need-word-requires
-word-requires c κs = search needs
-
-is-between-requires : tie.Need-is-between-requires
-is-between-requires c κs = search needs
-
 returns : tie.Need-returns
 returns c =
     let st = c .before .before .before in
@@ -29,4 +23,4 @@ returns c =
     ∙ ap (λ (hi : ℤ). between (negℤ (st .args .m)) hi (wordAt (st .args .s .now) (st .args .p))) (m .is)
 
 pub within-spec : {M : Type 1} → statement M
-within-spec = tie.close (tie.spec sub-is-between word-requires is-between-requires returns)
+within-spec = tie.close (tie.spec sub-is-between (λ c κs. search needs) (λ c κs. search needs) returns)

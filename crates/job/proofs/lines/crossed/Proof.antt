@@ -28,12 +28,6 @@ clear true b e = absurd (omega arith)
 clear false true e = absurd (omega arith)
 clear false false e = refl
 
-above-requires : tie.Need-above-requires
-above-requires c κs = search needs
-
-below-requires : tie.Need-below-requires
-below-requires c κs = search needs
-
 -- a product of two tests
 both : (s t : Bool) {a b : ℕ} → a ≡ flag s → b ≡ flag t → (a * b ≡ flag (s && t)) × (a * b ≤ 1)
 both s t e f = let p = ap₂ _*_ e f ∙ product s t in (p, let q = at-most (s && t) in omega arith)
@@ -59,12 +53,6 @@ up c =
 mul-result : tie.Need-mul-result
 mul-result c = omega (arith, down c .1)
 
-below-requires-2 : tie.Need-below-requires-2
-below-requires-2 c κs = search needs
-
-above-requires-2 : tie.Need-above-requires-2
-above-requires-2 c κs = search needs
-
 mul-result-2 : tie.Need-mul-result-2
 mul-result-2 c = omega (arith, up c .1)
 
@@ -82,11 +70,11 @@ pub crossed-spec : {M : Type 1} → statement M
 crossed-spec =
     tie.close
     (tie.spec
-    above-requires
-    below-requires
+    (λ c κs. search needs)
+    (λ c κs. search needs)
     mul-result
-    below-requires-2
-    above-requires-2
+    (λ c κs. search needs)
+    (λ c κs. search needs)
     mul-result-2
     add-result
     returns)

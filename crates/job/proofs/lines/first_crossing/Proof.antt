@@ -21,21 +21,6 @@ abbrev μ-loop : tie.MeasureT-loop
 loop-holds : tie.Need-loop-holds Inv-loop μ-loop
 loop-holds c = search-begins _ _
 
-mul-p : tie.Need-mul-p Inv-loop μ-loop
-mul-p c = omega arith
-
-word-requires : tie.Need-word-requires Inv-loop μ-loop
-word-requires c κs = omega arith
-
-add-word : tie.Need-add-word Inv-loop μ-loop
-add-word c = omega arith
-
-word-requires-2 : tie.Need-word-requires-2 Inv-loop μ-loop
-word-requires-2 c κs = omega arith
-
-crosses-requires : tie.Need-crosses-requires Inv-loop μ-loop
-crosses-requires c κs = search needs
-
 -- the piece's test
 tested : (c : tie.After-crosses Inv-loop μ-loop) →
     let s = c .before .before .before .before .before .before .args .s .now in
@@ -48,12 +33,6 @@ unfolding misfit
 returns c =
     let k = c .before in
     sym (search-found (k .before .before .before .before .loop .inv) (omega arith) (piece 0 _ _ (sym (tested k) ∙ c .if1 .taken)))
-
-add-i : tie.Need-add-i Inv-loop μ-loop
-add-i c = omega arith
-
-loop-less : tie.Need-loop-less Inv-loop μ-loop
-loop-less c = omega arith
 
 loop-again : tie.Need-loop-again Inv-loop μ-loop
 loop-again c =
@@ -71,13 +50,13 @@ first-crossing-spec =
     Inv-loop
     μ-loop
     loop-holds
-    mul-p
-    word-requires
-    add-word
-    word-requires-2
-    crosses-requires
+    (λ c. omega arith)
+    (λ c κs. omega arith)
+    (λ c. omega arith)
+    (λ c κs. omega arith)
+    (λ c κs. search needs)
     returns
-    add-i
-    loop-less
+    (λ c. omega arith)
+    (λ c. omega arith)
     loop-again
     returns-2)

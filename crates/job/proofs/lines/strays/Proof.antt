@@ -1,6 +1,6 @@
-use mathlib.Core.Path.{_≡_, refl, sym, _∙_, ap, ap₂, subst}
-use mathlib.Core.Bool.{true, false}
-use Prim.Native.Nat.{ℕ, _+_, _-_, _*_, _<_}
+use mathlib.Core.Path.{_≡_, subst}
+use mathlib.Core.Bool.{true}
+use Prim.Native.Nat.{_-_}
 use native.Mathlib.Omega.{arith}
 use lib.IntN.{ℤ, negℤ}
 use mir.Syntax.{w32}
@@ -8,7 +8,6 @@ use Rattle.exact.specs.Choice.{between}
 use mir.Val.{toZ, ofZ}
 use Rattle.exact.proofs.Held.{any, arg, back, told}
 use Rattle.model.specs.Words.{wordAt}
-use Rattle.model.specs.Refusals.{crosses}
 use Rattle.job.proofs.Scans.{Tally, tally-begins, tally-more}
 use Rattle.job.proofs.lines.strays.Statement.{statement}
 use Rattle.job.proofs.lines.strays.Tie as tie
@@ -22,20 +21,11 @@ abbrev μ-loop : tie.MeasureT-loop
 loop-holds : tie.Need-loop-holds Inv-loop μ-loop
 loop-holds c = tally-begins
 
-word32-requires : tie.Need-word32-requires Inv-loop μ-loop
-word32-requires c κs = omega arith
-
 outside-requires : tie.Need-outside-requires Inv-loop μ-loop
 outside-requires c κs = let st = c .before .before .before .before in told (arg (st .fits .m) (st .pre .1)) .1
 
 add-sum : tie.Need-add-sum Inv-loop μ-loop
 add-sum c = omega (arith, c .before .before .before .loop .inv .small, c .outside .ensures .0)
-
-add-k : tie.Need-add-k Inv-loop μ-loop
-add-k c = omega arith
-
-loop-less : tie.Need-loop-less Inv-loop μ-loop
-loop-less c = omega arith
 
 loop-again : tie.Need-loop-again Inv-loop μ-loop
 loop-again c =
@@ -56,10 +46,10 @@ strays-spec =
     Inv-loop
     μ-loop
     loop-holds
-    word32-requires
+    (λ c κs. omega arith)
     outside-requires
     add-sum
-    add-k
-    loop-less
+    (λ c. omega arith)
+    (λ c. omega arith)
     loop-again
     returns)

@@ -15,23 +15,14 @@ first c = c .before .before .before .before
 defective-requires : tie.Need-defective-requires
 defective-requires c κs = table-there (c .before .pre) (omega arith)
 
-enum-known-repeating : tie.Need-enum-known-repeating
-enum-known-repeating c = search needs
-
 defective-requires-2 : tie.Need-defective-requires-2
 defective-requires-2 c κs = let k = c .before .before .before in table-there (k .before .before .pre) (omega arith)
-
-enum-known-returning : tie.Need-enum-known-returning
-enum-known-returning c = search needs
 
 returns : tie.Need-returns
 unfolding jobTests fault7
 returns c =
     let k = c .before .before .before in
     ruled 7 _ (omega arith) (refuses (first k .before .before .pre) (omega arith) _ (sym (k .defective2 .ensures) ∙ ap placeOf (c .before .returning .given .1)))
-
-enum-told : tie.Need-enum-told
-enum-told c = search needs
 
 returns-2 : tie.Need-returns-2
 unfolding jobTests fault7
@@ -40,9 +31,6 @@ returns-2 c =
     let c7 = sym (k .defective2 .ensures) ∙ ap placeOf (c .enum-told .given .1) in
     let c8 = repeats-alone _ c7 ∙ sym (first k .defective .ensures) ∙ ap placeOf (k .before .before .repeating .given .1) in
     ruled 8 _ (omega arith) (refuses (goes-on (first k .before .before .pre) c7) (omega arith) _ c8)
-
-enum-told-2 : tie.Need-enum-told-2
-enum-told-2 c = search needs
 
 returns-3 : tie.Need-returns-3
 unfolding jobTests
@@ -59,11 +47,11 @@ by-chains-spec =
     tie.close
     (tie.spec
     defective-requires
-    enum-known-repeating
+    (λ c. search needs)
     defective-requires-2
-    enum-known-returning
+    (λ c. search needs)
     returns
-    enum-told
+    (λ c. search needs)
     returns-2
-    enum-told-2
+    (λ c. search needs)
     returns-3)

@@ -9,9 +9,6 @@ use borrow.Author.Needs.{needs}
 use Rattle.job.proofs.refusals.count.Statement.{statement}
 use Rattle.job.proofs.refusals.count.Tie as tie
 
-words-due-requires : tie.Need-words-due-requires
-words-due-requires c κs = search needs
-
 -- the count due, by the job's own words
 due : (c : tie.After-words-due) → c .words-due .result ≡ wordsDue (headerOf (c .before .before .args .s .now))
 due c = c .words-due .ensures .0 ∙ ap wordsDue (c .before .before .pre .0)
@@ -27,4 +24,4 @@ returns-2 c =
     rw (ne-eqb (length b / 4) (wordsDue (headerOf b)) (λ e. c .if1 .left (e ∙ sym (due (c .before))))) (ap some (due (c .before)))
 
 pub count-spec : {M : Type 1} → statement M
-count-spec = tie.close (tie.spec words-due-requires returns returns-2)
+count-spec = tie.close (tie.spec (λ c κs. search needs) returns returns-2)

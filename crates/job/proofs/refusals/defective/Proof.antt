@@ -12,9 +12,6 @@ use borrow.Author.Needs.{needs}
 use Rattle.job.proofs.refusals.defective.Statement.{statement}
 use Rattle.job.proofs.refusals.defective.Tie as tie
 
-first-row-requires : tie.Need-first-row-requires
-first-row-requires c κs = search needs
-
 in-job-requires : tie.Need-in-job-requires
 in-job-requires c κs =
     let st = c .before .before in
@@ -28,4 +25,4 @@ returns c =
     ∙ ap (λ (h : Header). moved (start h Rows) (firstDefective (st .args .defect) (st .args .s .now))) (st .pre .0 .own)
 
 pub defective-spec : {M : Type 1} → statement M
-defective-spec = tie.close (tie.spec first-row-requires in-job-requires returns)
+defective-spec = tie.close (tie.spec (λ c κs. search needs) in-job-requires returns)

@@ -10,9 +10,6 @@ use borrow.Author.Needs.{needs}
 use Rattle.job.proofs.refusals.fault.Statement.{statement}
 use Rattle.job.proofs.refusals.fault.Tie as tie
 
-section-requires : tie.Need-section-requires
-section-requires c κs = search needs
-
 misfit-requires : tie.Need-misfit-requires
 misfit-requires c κs =
     let st = c .before .before in
@@ -32,4 +29,4 @@ returns c =
     ∙ ap (λ (h : Header). moved (start h part) (misfit (format h part) (sectionOf (st .args .s .now) part))) (st .pre .own)
 
 pub fault-spec : {M : Type 1} → statement M
-fault-spec = tie.close (tie.spec section-requires misfit-requires in-job-requires returns)
+fault-spec = tie.close (tie.spec (λ c κs. search needs) misfit-requires in-job-requires returns)

@@ -11,9 +11,6 @@ use borrow.Author.Needs.{needs}
 use Rattle.job.proofs.refusals.frame.Statement.{statement}
 use Rattle.job.proofs.refusals.frame.Tie as tie
 
-mul-if1 : tie.Need-mul-if1
-mul-if1 c = search needs
-
 returns : tie.Need-returns
 unfolding fault1
 returns c = let n = length (c .before .before .args .s .now) in rw (lt-leb 40 n (c .if1 .taken)) refl
@@ -23,9 +20,6 @@ unfolding fault1
 returns-2 c =
     let n = length (c .before .before .before .args .s .now) in
     rw (le-leb 40 n (c .before .if1 .left), ne-eqb (n % 4) 0 (c .if2 .taken)) refl
-
-word-requires : tie.Need-word-requires
-word-requires c κs = search needs
 
 returns-3 : tie.Need-returns-3
 unfolding fault1
@@ -44,4 +38,4 @@ returns-4 c =
     rw (le-leb 40 n (d .before .if1 .left), eq-eqb (n % 4) 0 (d .if2 .left), eq-yes w (lit w64 1 (lit< tt)) (c .if3 .left)) refl
 
 pub frame-spec : {M : Type 1} → statement M
-frame-spec = tie.close (tie.spec mul-if1 returns returns-2 word-requires returns-3 returns-4)
+frame-spec = tie.close (tie.spec (λ c. search needs) returns returns-2 (λ c κs. search needs) returns-3 returns-4)

@@ -14,9 +14,6 @@ use borrow.Author.Needs.{needs}
 use Rattle.job.proofs.refusals.limits.Statement.{statement}
 use Rattle.job.proofs.refusals.limits.Tie as tie
 
-header-requires : tie.Need-header-requires
-header-requires c κs = search needs
-
 header-misfit-requires : tie.Need-header-misfit-requires
 header-misfit-requires c κs =
     let st = c .before .before in
@@ -33,4 +30,4 @@ returns c =
     ∙ ap (λ (head : Header). faultIn (st .args .s .now) head (Head ∷ [])) (st .pre .0)
 
 pub limits-spec : {M : Type 1} → statement M
-limits-spec = tie.close (tie.spec header-requires header-misfit-requires returns)
+limits-spec = tie.close (tie.spec (λ c κs. search needs) header-misfit-requires returns)

@@ -16,9 +16,6 @@ use Rattle.job.proofs.refusals.line.Tie as tie
 long : (c : tie.After-section) → length (c .section .result .now) ≡ 8 * headerOf (c .before .before .args .s .now) .pieces
 long c = omega (arith, ap length (c .section .ensures), part-length (c .before .before .pre) Line)
 
-section-requires : tie.Need-section-requires
-section-requires c κs = search needs
-
 strays-requires : tie.Need-strays-requires
 strays-requires c κs = let st = c .before .before in (omega (arith, long c, header-fits _ (st .pre .within) .pieces .most), record { up≤ = omega arith; dn≤ = omega arith })
 
@@ -29,11 +26,5 @@ returns c =
     let clear = all-within (headerOf b) _ (long k) (c .before .strays .ensures (c .if1 .taken)) in
     sym (ap (moved (start (headerOf b) Line)) (ap (misfit (format (headerOf b) Line)) (sym (k .section .ensures)) ∙ clear))
 
-fault-requires : tie.Need-fault-requires
-fault-requires c κs = search needs
-
-returns-2 : tie.Need-returns-2
-returns-2 c = search needs
-
 pub line-spec : {M : Type 1} → statement M
-line-spec = tie.close (tie.spec section-requires strays-requires returns fault-requires returns-2)
+line-spec = tie.close (tie.spec (λ c κs. search needs) strays-requires returns (λ c κs. search needs) (λ c. search needs))

@@ -6,15 +6,6 @@ use Rattle.job.proofs.Sizes.{or-nothing}
 use Rattle.job.proofs.refusals.ordinates.Statement.{statement}
 use Rattle.job.proofs.refusals.ordinates.Tie as tie
 
-fault-requires : tie.Need-fault-requires
-fault-requires c κs = search needs
-
-line-requires : tie.Need-line-requires
-line-requires c κs = search needs
-
-or-else-requires : tie.Need-or-else-requires
-or-else-requires c κs = search needs
-
 returns : tie.Need-returns
 unfolding fault4
 returns c =
@@ -22,4 +13,4 @@ returns c =
     ∙ ap₂ orElse (c .before .before .line .ensures) (c .before .fault .ensures ∙ sym (or-nothing _))
 
 pub ordinates-spec : {M : Type 1} → statement M
-ordinates-spec = tie.close (tie.spec line-requires fault-requires or-else-requires returns)
+ordinates-spec = tie.close (tie.spec (λ c κs. search needs) (λ c κs. search needs) (λ c κs. search needs) returns)

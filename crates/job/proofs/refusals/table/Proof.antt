@@ -6,21 +6,6 @@ use Rattle.job.proofs.Sizes.{or-nothing}
 use Rattle.job.proofs.refusals.table.Statement.{statement}
 use Rattle.job.proofs.refusals.table.Tie as tie
 
-fault-requires : tie.Need-fault-requires
-fault-requires c κs = search needs
-
-fault-requires-2 : tie.Need-fault-requires-2
-fault-requires-2 c κs = search needs
-
-fault-requires-3 : tie.Need-fault-requires-3
-fault-requires-3 c κs = search needs
-
-or-else-requires : tie.Need-or-else-requires
-or-else-requires c κs = search needs
-
-or-else-requires-2 : tie.Need-or-else-requires-2
-or-else-requires-2 c κs = search needs
-
 returns : tie.Need-returns
 unfolding fault6
 returns c =
@@ -32,9 +17,9 @@ pub table-spec : {M : Type 1} → statement M
 table-spec =
     tie.close
     (tie.spec
-    fault-requires
-    fault-requires-2
-    fault-requires-3
-    or-else-requires
-    or-else-requires-2
+    (λ c κs. search needs)
+    (λ c κs. search needs)
+    (λ c κs. search needs)
+    (λ c κs. search needs)
+    (λ c κs. search needs)
     returns)

@@ -15,17 +15,8 @@ Inv-loop s head number₀ number = Passed s head number × (number ≤ 7)
 abbrev μ-loop : tie.MeasureT-loop
 μ-loop s head number₀ number = 7 - number
 
-frame-requires : tie.Need-frame-requires Inv-loop μ-loop
-frame-requires c κs = search needs
-
-enum-known-first : tie.Need-enum-known-first Inv-loop μ-loop
-enum-known-first c = search needs
-
 returns : tie.Need-returns Inv-loop μ-loop
 returns c = let k = c .before .before .before in frame-refuses _ _ (sym (k .frame .ensures) ∙ ap placeOf (c .before .first .given .1))
-
-enum-told : tie.Need-enum-told Inv-loop μ-loop
-enum-told c = search needs
 
 read-requires : tie.Need-read-requires Inv-loop μ-loop
 read-requires c κs = has-header _ (sym (c .before .before .frame .ensures) ∙ ap placeOf (c .enum-told .given .1))
@@ -36,23 +27,11 @@ loop-holds c = (begins (c .read .ensures) (sym (c .before .before .before .frame
 found-requires : tie.Need-found-requires Inv-loop μ-loop
 found-requires c κs = (c .before .loop .inv .0, omega arith)
 
-enum-known-fault : tie.Need-enum-known-fault Inv-loop μ-loop
-enum-known-fault c = search needs
-
 returns-2 : tie.Need-returns-2 Inv-loop μ-loop
 returns-2 c =
     let k = c .before .before .before in
     let inv = k .before .before .loop .inv in
     ruled _ _ (omega (arith, inv .0 .first)) (refuses (inv .0) (omega arith) _ (sym (k .found .ensures) ∙ ap placeOf (c .before .fault .given .1)))
-
-enum-told-2 : tie.Need-enum-told-2 Inv-loop μ-loop
-enum-told-2 c = search needs
-
-add-number : tie.Need-add-number Inv-loop μ-loop
-add-number c = omega arith
-
-loop-less : tie.Need-loop-less Inv-loop μ-loop
-loop-less c = omega arith
 
 loop-again : tie.Need-loop-again Inv-loop μ-loop
 loop-again c = let k = c .before .before in (goes-on (k .before .before .loop .inv .0) (sym (k .found .ensures) ∙ ap placeOf (c .enum-told2 .given .1)), omega arith)
@@ -69,18 +48,18 @@ verdict-spec =
     (tie.spec
     Inv-loop
     μ-loop
-    frame-requires
-    enum-known-first
+    (λ c κs. search needs)
+    (λ c. search needs)
     returns
-    enum-told
+    (λ c. search needs)
     read-requires
     loop-holds
     found-requires
-    enum-known-fault
+    (λ c. search needs)
     returns-2
-    enum-told-2
-    add-number
-    loop-less
+    (λ c. search needs)
+    (λ c. omega arith)
+    (λ c. omega arith)
     loop-again
     by-chains-requires
     returns-3)

@@ -9,23 +9,8 @@ use Rattle.job.proofs.sections.section.Tie as tie
 start-requires : tie.Need-start-requires
 start-requires c κs = counts (c .before .pre)
 
-mul-a : tie.Need-mul-a
-mul-a c = search needs
-
 words-requires : tie.Need-words-requires
 words-requires c κs = counts (c .before .before .pre)
-
-mul-e : tie.Need-mul-e
-mul-e c = search needs
-
-add-e : tie.Need-add-e
-add-e c = search needs
-
-sub-result : tie.Need-sub-result
-sub-result c = search needs
-
-part-result-start : tie.Need-part-result-start
-part-result-start c = search needs
 
 part-result-end : tie.Need-part-result-end
 part-result-end c =
@@ -43,11 +28,11 @@ section-spec =
     tie.close
     (tie.spec
     start-requires
-    mul-a
+    (λ c. search needs)
     words-requires
-    mul-e
-    add-e
-    sub-result
-    part-result-start
+    (λ c. search needs)
+    (λ c. search needs)
+    (λ c. search needs)
+    (λ c. search needs)
     part-result-end
     returns)

@@ -3,51 +3,6 @@ use native.Mathlib.Omega.{arith}
 use Rattle.job.proofs.sections.start.Statement.{statement}
 use Rattle.job.proofs.sections.start.Tie as tie
 
-words-requires : tie.Need-words-requires
-words-requires c κs = search needs
-
-words-requires-2 : tie.Need-words-requires-2
-words-requires-2 c κs = search needs
-
-add-transverse : tie.Need-add-transverse
-add-transverse c = search needs
-
-words-requires-3 : tie.Need-words-requires-3
-words-requires-3 c κs = search needs
-
-add-effects : tie.Need-add-effects
-add-effects c = search needs
-
-words-requires-4 : tie.Need-words-requires-4
-words-requires-4 c κs = search needs
-
-add-rows : tie.Need-add-rows
-add-rows c = search needs
-
-words-requires-5 : tie.Need-words-requires-5
-words-requires-5 c κs = search needs
-
-add-records : tie.Need-add-records
-add-records c = search needs
-
-enum-told : tie.Need-enum-told
-enum-told c = search needs
-
-enum-told-2 : tie.Need-enum-told-2
-enum-told-2 c = search needs
-
-enum-told-3 : tie.Need-enum-told-3
-enum-told-3 c = search needs
-
-enum-told-4 : tie.Need-enum-told-4
-enum-told-4 c = search needs
-
-enum-told-5 : tie.Need-enum-told-5
-enum-told-5 c = search needs
-
-enum-told-6 : tie.Need-enum-told-6
-enum-told-6 c = search needs
-
 returns : tie.Need-returns
 returns c = rw (c .enum-told .given .1) (omega arith)
 
@@ -70,21 +25,21 @@ pub start-spec : {M : Type 1} → statement M
 start-spec =
     tie.close
     (tie.spec
-    words-requires
-    words-requires-2
-    add-transverse
-    words-requires-3
-    add-effects
-    words-requires-4
-    add-rows
-    words-requires-5
-    add-records
-    enum-told
-    enum-told-2
-    enum-told-3
-    enum-told-4
-    enum-told-5
-    enum-told-6
+    (λ c κs. search needs)
+    (λ c κs. search needs)
+    (λ c. search needs)
+    (λ c κs. search needs)
+    (λ c. search needs)
+    (λ c κs. search needs)
+    (λ c. search needs)
+    (λ c κs. search needs)
+    (λ c. search needs)
+    (λ c. search needs)
+    (λ c. search needs)
+    (λ c. search needs)
+    (λ c. search needs)
+    (λ c. search needs)
+    (λ c. search needs)
     returns
     returns-2
     returns-3

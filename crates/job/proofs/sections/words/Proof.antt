@@ -6,12 +6,6 @@ use Rattle.job.proofs.Sizes.{product}
 use Rattle.job.proofs.sections.words.Statement.{statement}
 use Rattle.job.proofs.sections.words.Tie as tie
 
-item-words-requires : tie.Need-item-words-requires
-item-words-requires c κs = search needs
-
-items-requires : tie.Need-items-requires
-items-requires c κs = search needs
-
 mul-result : tie.Need-mul-result
 mul-result c = omega (arith, product (c .before .item-words .ensures .1) (c .items .ensures .1))
 
@@ -19,4 +13,4 @@ returns : tie.Need-returns
 returns c = (ap₂ _*_ (c .before .item-words .ensures .0) (c .items .ensures .0), product (c .before .item-words .ensures .1) (c .items .ensures .1))
 
 pub words-spec : {M : Type 1} → statement M
-words-spec = tie.close (tie.spec item-words-requires items-requires mul-result returns)
+words-spec = tie.close (tie.spec (λ c κs. search needs) (λ c κs. search needs) mul-result returns)

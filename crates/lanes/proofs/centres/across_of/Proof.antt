@@ -6,12 +6,6 @@ use Rattle.lanes.proofs.Limits.{across-right}
 use Rattle.lanes.proofs.centres.across_of.Statement.{statement}
 use Rattle.lanes.proofs.centres.across_of.Tie as tie
 
-lane-count-requires : tie.Need-lane-count-requires
-lane-count-requires c κs = search needs
-
-spans-requires : tie.Need-spans-requires
-spans-requires c κs = search needs
-
 mul-t6 : tie.Need-mul-t6
 mul-t6 c =
     let s = c .before .before .before in
@@ -24,4 +18,4 @@ returns c =
     across-right (s .args .section .now) (s .args .width) (c .before .lane-count .result) (s .args .g) (c .spans .result) (s .pre) (c .before .lane-count .ensures .0) (c .spans .ensures .1 .0)
 
 pub across-of-spec : {M : Type 1} → statement M
-across-of-spec = tie.close (tie.spec lane-count-requires spans-requires mul-t6 returns)
+across-of-spec = tie.close (tie.spec (λ c κs. search needs) (λ c κs. search needs) mul-t6 returns)

@@ -77,12 +77,6 @@ mul-consider c = let h = inside c in omega arith
 consider-requires-2 : tie.Need-consider-requires-2 Inv-loop μ-loop
 consider-requires-2 c κs = let s = c .before .before .before .before .before in (s .pre .0, (s .pre .1 .0, has-ordinates c))
 
-add-m-2 : tie.Need-add-m-2 Inv-loop μ-loop
-add-m-2 c = omega arith
-
-loop-less : tie.Need-loop-less Inv-loop μ-loop
-loop-less c = omega arith
-
 loop-again : tie.Need-loop-again Inv-loop μ-loop
 loop-again c =
     let i = c .before in
@@ -119,7 +113,7 @@ best-spec =
     loop-holds
     mul-consider
     consider-requires-2
-    add-m-2
-    loop-less
+    (λ c. omega arith)
+    (λ c. omega arith)
     loop-again
     returns)

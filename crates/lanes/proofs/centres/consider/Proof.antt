@@ -7,12 +7,6 @@ use Rattle.lanes.specs.Candidates.{ordinateAt}
 use Rattle.lanes.proofs.centres.consider.Statement.{statement}
 use Rattle.lanes.proofs.centres.consider.Tie as tie
 
-ordinate-requires : tie.Need-ordinate-requires
-ordinate-requires c κs = search needs
-
-beats-requires : tie.Need-beats-requires
-beats-requires c κs = search needs
-
 -- what the test compared
 tested : (c : tie.After-beats) → let a = c .before .before .before .before .args in beats (a .q) (ordinateAt (a .across .now) (a .d) (a .at)) (a .best .ordinate) ≡ c .beats .result
 tested c =
@@ -29,4 +23,4 @@ returns-2 : tie.Need-returns-2
 returns-2 c = rw (tested (c .before) ∙ c .if1 .left) refl
 
 pub consider-spec : {M : Type 1} → statement M
-consider-spec = tie.close (tie.spec ordinate-requires beats-requires returns returns-2)
+consider-spec = tie.close (tie.spec (λ c κs. search needs) (λ c κs. search needs) returns returns-2)

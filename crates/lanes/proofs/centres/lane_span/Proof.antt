@@ -19,9 +19,6 @@ mul-lo-2 c = omega (arith, bounds (c .before))
 add-lo : tie.Need-add-lo
 add-lo c = omega (arith, bounds (c .before))
 
-add-hi : tie.Need-add-hi
-add-hi c = search needs
-
 mul-hi : tie.Need-mul-hi
 mul-hi c = omega (arith, bounds (c .before))
 
@@ -60,7 +57,7 @@ lane-span-spec =
     mul-lo
     mul-lo-2
     add-lo
-    add-hi
+    (λ c. search needs)
     mul-hi
     mul-hi-2
     sub-hi

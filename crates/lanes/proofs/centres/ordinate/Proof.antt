@@ -40,32 +40,14 @@ from-right c =
     let h = small s in
     (_, times (j s .1) (ret w64 (c .word2 .ok) (c .word2 .ensures .0) (right s)) (omega arith))
 
-div-m : tie.Need-div-m
-div-m c = search needs
-
-rem-j : tie.Need-rem-j
-rem-j c = search needs
-
 sub-result : tie.Need-sub-result
 sub-result c = le-of-lt (small (c .before))
-
-cast-result : tie.Need-cast-result
-cast-result c = search needs
-
-word-requires : tie.Need-word-requires
-word-requires c κs = search needs
 
 mul-result : tie.Need-mul-result
 mul-result c = let s = c .before .before in times! (d-j s .1) (ret w64 (c .word .ok) (c .word .ensures .0) (left s)) (omega arith)
 
 cast-result-2 : tie.Need-cast-result-2
 cast-result-2 c = let h = small (c .before .before) in record { sfits = omega arith }
-
-add-word : tie.Need-add-word
-add-word c = search needs
-
-word-requires-2 : tie.Need-word-requires-2
-word-requires-2 c κs = search needs
 
 mul-result-2 : tie.Need-mul-result-2
 mul-result-2 c =
@@ -88,15 +70,15 @@ pub ordinate-spec : {M : Type 1} → statement M
 ordinate-spec =
     tie.close
     (tie.spec
-    div-m
-    rem-j
+    (λ c. search needs)
+    (λ c. search needs)
     sub-result
-    cast-result
-    word-requires
+    (λ c. search needs)
+    (λ c κs. search needs)
     mul-result
     cast-result-2
-    add-word
-    word-requires-2
+    (λ c. search needs)
+    (λ c κs. search needs)
     mul-result-2
     add-result
     returns)

@@ -22,12 +22,6 @@ abbrev ordinate : (x : Centre) (q : Question) (span : Span) → x ≡ bestOf q s
 ordinate x q span e h =
     (_, retold (known w64 {z = x .ordinate} (subst (λ (y : Centre). Within transverseMost (y .ordinate)) (sym e) (near-of q span h)) (lit< tt)) (ap (λ (y : Centre). y .ordinate) e))
 
-best-of-requires : tie.Need-best-of-requires
-best-of-requires c κs = search needs
-
-worst-of-requires : tie.Need-worst-of-requires
-worst-of-requires c κs = search needs
-
 module _ (c : tie.After-worst-of) where
   abbrev s : tie.Start
   s = c .before .before
@@ -62,9 +56,6 @@ mul-up c = times! (best (c .before .before) .1) (raising (c .before .before) .1)
 mul-down : tie.Need-mul-down
 mul-down c = let w = c .before .before .before .before in times! (worst w .1) (lowering w .1) (lit< tt)
 
-beats-requires : tie.Need-beats-requires
-beats-requires c κs = search needs
-
 returns : tie.Need-returns
 returns c =
     let w = c .before .before .before .before .before .before in
@@ -88,4 +79,4 @@ returns-2 c =
 pub choose-spec : {M : Type 1} → statement M
 choose-spec =
     tie.close
-    (tie.spec best-of-requires worst-of-requires mul-up mul-down beats-requires returns returns-2)
+    (tie.spec (λ c κs. search needs) (λ c κs. search needs) mul-up mul-down (λ c κs. search needs) returns returns-2)

@@ -25,34 +25,10 @@ abbrev μ-loop : tie.MeasureT-loop
 loop-holds : tie.Need-loop-holds Inv-loop μ-loop
 loop-holds c = (omega arith, filled-none _ 5 noElement, filled-none _ 5 (pos 0))
 
-mul-span : tie.Need-mul-span Inv-loop μ-loop
-mul-span c = omega arith
-
-array-copy-out-span : tie.Need-array-copy-out-span Inv-loop μ-loop
-array-copy-out-span c = omega arith
-
 choose-requires : tie.Need-choose-requires Inv-loop μ-loop
 choose-requires c κs =
     let s = c .before .before .before in
     (s .pre .1 .0 (c .before .before .loop .i) (omega arith), rw (any (s .fits .raising) .is, any (s .fits .lowering) .is) (s .pre .1 .1))
-
-mul-all : tie.Need-mul-all Inv-loop μ-loop
-mul-all c = omega arith
-
-array-set-from-all : tie.Need-array-set-from-all Inv-loop μ-loop
-array-set-from-all c = omega arith
-
-mul-values : tie.Need-mul-values Inv-loop μ-loop
-mul-values c = omega arith
-
-array-set-from-values : tie.Need-array-set-from-values Inv-loop μ-loop
-array-set-from-values c = omega arith
-
-add-i : tie.Need-add-i Inv-loop μ-loop
-add-i c = omega arith
-
-loop-less : tie.Need-loop-less Inv-loop μ-loop
-loop-less c = omega arith
 
 loop-again : tie.Need-loop-again Inv-loop μ-loop
 loop-again c =
@@ -77,14 +53,14 @@ choose-all-spec =
     Inv-loop
     μ-loop
     loop-holds
-    mul-span
-    array-copy-out-span
+    (λ c. omega arith)
+    (λ c. omega arith)
     choose-requires
-    mul-all
-    array-set-from-all
-    mul-values
-    array-set-from-values
-    add-i
-    loop-less
+    (λ c. omega arith)
+    (λ c. omega arith)
+    (λ c. omega arith)
+    (λ c. omega arith)
+    (λ c. omega arith)
+    (λ c. omega arith)
     loop-again
     returns)

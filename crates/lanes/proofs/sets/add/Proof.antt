@@ -18,9 +18,6 @@ use Rattle.lanes.specs.declared.sets.Growing.{Growing}
 use Rattle.lanes.proofs.sets.add.Statement.{statement}
 use Rattle.lanes.proofs.sets.add.Tie as tie
 
-with-requires : tie.Need-with-requires
-with-requires c κs = search needs
-
 -- the sum with the lane's value
 module _ (s : tie.Start) where
   abbrev sum : ℤ
@@ -39,9 +36,6 @@ module _ (s : tie.Start) where
 add-sum : tie.Need-add-sum
 add-sum c = let s = c .before .before .before in plus! (known w64 (s .pre .2) (lit< tt)) (arg (s .fits .value) (s .pre .3)) (lit< tt)
 
-reduction-requires : tie.Need-reduction-requires
-reduction-requires c κs = search needs
-
 -- its sum at its r
 module _ (c : tie.After-reduction) where
   abbrev st : tie.Start
@@ -58,9 +52,6 @@ module _ (c : tie.After-reduction) where
 
 mul-best : tie.Need-mul-best
 mul-best c = times! (r c .1) (sum-held (st c) .1) (lit< tt)
-
-beats-requires : tie.Need-beats-requires
-beats-requires c κs = search needs
 
 -- the answer of the comparison
 told : (c : tie.After-beats) {t : Bool} → c .beats .result ≡ t → given (st (c .before .before)) (set (c .before .before)) t ≡ added (st (c .before .before) .args .q) (st (c .before .before) .args .s) (st (c .before .before) .args .lane) (st (c .before .before) .args .value)
@@ -81,4 +72,4 @@ returns-2 c =
     ap₂ (λ (x y : ℤ). record { set = set a; sum = x; best = y; chosen = st a .args .s .chosen }) (sum-held (st a) .1 .is) (any (best-fits (st a)) .is) ∙ told (c .before .before) (c .before .if1 .left)
 
 pub add-spec : {M : Type 1} → statement M
-add-spec = tie.close (tie.spec with-requires add-sum reduction-requires mul-best beats-requires returns returns-2)
+add-spec = tie.close (tie.spec (λ c κs. search needs) add-sum (λ c κs. search needs) mul-best (λ c κs. search needs) returns returns-2)

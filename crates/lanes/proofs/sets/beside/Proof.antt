@@ -19,12 +19,6 @@ loop-holds c = (omega arith, grown-none (c .args .q) (c .args .n) (valueAt (c .a
 grow-requires : tie.Need-grow-requires Inv-loop μ-loop
 grow-requires c κs = (c .before .before .pre .0, c .before .before .pre .1, c .before .loop .inv .1)
 
-add-m : tie.Need-add-m Inv-loop μ-loop
-add-m c = omega arith
-
-loop-less : tie.Need-loop-less Inv-loop μ-loop
-loop-less c = omega arith
-
 loop-again : tie.Need-loop-again Inv-loop μ-loop
 loop-again c = (omega arith, c .grow .ensures .0, c .grow .ensures .1 (c .before .before .loop .m) (c .before .before .loop .inv .2))
 
@@ -36,4 +30,4 @@ returns c =
     all-grown (a .q) (a .n) (valueAt (a .values)) (a .o) (l .s) (l .inv .1) (subst (λ (m : ℕ). Reaches (a .n) (a .o) m (l .s .set)) all (l .inv .2))
 
 pub beside-spec : {M : Type 1} → statement M
-beside-spec = tie.close (tie.spec Inv-loop μ-loop loop-holds grow-requires add-m loop-less loop-again returns)
+beside-spec = tie.close (tie.spec Inv-loop μ-loop loop-holds grow-requires (λ c. omega arith) (λ c. omega arith) loop-again returns)

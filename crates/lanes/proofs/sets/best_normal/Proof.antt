@@ -11,9 +11,6 @@ use Rattle.lanes.proofs.Best.{set-near, normal-right}
 use Rattle.lanes.proofs.sets.best_normal.Statement.{statement}
 use Rattle.lanes.proofs.sets.best_normal.Tie as tie
 
-beside-requires : tie.Need-beside-requires
-beside-requires c κs = search needs
-
 returns : tie.Need-returns
 returns c =
     let s = c .before .before in
@@ -24,4 +21,4 @@ returns c =
     normal-right (a .q) (a .n) v _ (c .before .beside .result .chosen) (s .pre .0) (s .pre .1 .near) (subst (λ (x : ℤ). BestBeside (a .q) (a .n) v 5 (a .n) x (c .before .beside .result .chosen)) (sym (known w64 near (lit< tt) .is)) b)
 
 pub best-normal-spec : {M : Type 1} → statement M
-best-normal-spec = tie.close (tie.spec beside-requires returns)
+best-normal-spec = tie.close (tie.spec (λ c κs. search needs) returns)

@@ -5,7 +5,6 @@ use lib.Dec.{lit<}
 use lib.IntN.{ℤ}
 use mir.Syntax.{w64}
 use borrow.Author.Needs.{needs}
-use Rattle.exact.specs.Bounds.{Within}
 use Rattle.exact.proofs.Held.{known, told}
 use Rattle.lanes.specs.Sets.{valueAt, OverloadAt}
 use Rattle.lanes.proofs.Best.{OverloadTo, overload-first, overload-more, overload-right}
@@ -17,9 +16,6 @@ Inv-loop q hn n ho best₀ lane₀ best lane = (1 ≤ lane) × (lane ≤ n) × O
 
 abbrev μ-loop : tie.MeasureT-loop
 μ-loop q hn n ho best₀ lane₀ best lane = n - lane
-
-array-copy-out-overload-at : tie.Need-array-copy-out-overload-at Inv-loop μ-loop
-array-copy-out-overload-at c = search needs
 
 overload-at-requires : tie.Need-overload-at-requires Inv-loop μ-loop
 overload-at-requires c κs = let s = c .before in (s .pre .1, s .pre .2, told (known w64 (s .pre .3 0 (s .pre .0)) (lit< tt)) .1)
@@ -35,25 +31,10 @@ loop-holds c =
           (subst (λ (x : ℤ). OverloadAt (a .q) (a .n) (valueAt (a .hn)) x 0 (r .result)) (known w64 (s .pre .3 0 (s .pre .0)) (lit< tt) .is) (r .ensures)),
     )
 
-mul-overload-at : tie.Need-mul-overload-at Inv-loop μ-loop
-mul-overload-at c = omega arith
-
-array-copy-out-overload-at-2 : tie.Need-array-copy-out-overload-at-2 Inv-loop μ-loop
-array-copy-out-overload-at-2 c = omega arith
-
 overload-at-requires-2 : tie.Need-overload-at-requires-2 Inv-loop μ-loop
 overload-at-requires-2 c κs =
     let s = c .before .before .before .before .before in
     (s .pre .1, s .pre .2, told (known w64 (s .pre .3 (c .before .before .loop .lane) (omega arith)) (lit< tt)) .1)
-
-better-requires : tie.Need-better-requires Inv-loop μ-loop
-better-requires c κs = search needs
-
-add-lane : tie.Need-add-lane Inv-loop μ-loop
-add-lane c = omega arith
-
-loop-less : tie.Need-loop-less Inv-loop μ-loop
-loop-less c = omega arith
 
 loop-again : tie.Need-loop-again Inv-loop μ-loop
 loop-again c =
@@ -82,14 +63,14 @@ best-overload-spec =
     (tie.spec
     Inv-loop
     μ-loop
-    array-copy-out-overload-at
+    (λ c. search needs)
     overload-at-requires
     loop-holds
-    mul-overload-at
-    array-copy-out-overload-at-2
+    (λ c. omega arith)
+    (λ c. omega arith)
     overload-at-requires-2
-    better-requires
-    add-lane
-    loop-less
+    (λ c κs. search needs)
+    (λ c. omega arith)
+    (λ c. omega arith)
     loop-again
     returns)

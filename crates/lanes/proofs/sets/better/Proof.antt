@@ -11,9 +11,6 @@ use Rattle.exact.proofs.Held.{any, ok-fits, beats-held}
 use Rattle.lanes.proofs.sets.better.Statement.{statement}
 use Rattle.lanes.proofs.sets.better.Tie as tie
 
-beats-requires : tie.Need-beats-requires
-beats-requires c κs = search needs
-
 -- the answer of the comparison
 module _ (c : tie.After-beats) where
   abbrev s : tie.Start
@@ -34,4 +31,4 @@ returns-2 : tie.Need-returns-2
 returns-2 c = told (c .before) (c .if1 .left)
 
 pub better-spec : {M : Type 1} → statement M
-better-spec = tie.close (tie.spec beats-requires returns returns-2)
+better-spec = tie.close (tie.spec (λ c κs. search needs) returns returns-2)

@@ -1,5 +1,5 @@
 use mathlib.Core.Path.{_≡_, sym, _∙_, ap, ap₂}
-use mathlib.Core.Bool.{Bool, true}
+use mathlib.Core.Bool.{Bool}
 use Prim.Native.Nat.{_^_, _<_}
 use native.Mathlib.Omega.{arith}
 use lib.IntN.{ℤ}
@@ -12,9 +12,6 @@ use Rattle.exact.proofs.Held.{any, ok-fits, beats-held}
 use Rattle.lanes.specs.declared.sets.Pick.{Pick}
 use Rattle.lanes.proofs.sets.consider.Statement.{statement}
 use Rattle.lanes.proofs.sets.consider.Tie as tie
-
-beats-requires : tie.Need-beats-requires
-beats-requires c κs = search needs
 
 -- the answer of the comparison
 module _ (c : tie.After-beats) where
@@ -36,8 +33,5 @@ returns c = told (c .before) (c .if2 .taken)
 returns-2 : tie.Need-returns-2
 returns-2 c = ap (λ (x : ℤ). record { value = x; at = c .before .before .before .before .args .at }) (any (c .before .before .before .before .fits .value) .is) ∙ told (c .before) (c .if2 .left)
 
-returns-3 : tie.Need-returns-3
-returns-3 c = search needs
-
 pub consider-spec : {M : Type 1} → statement M
-consider-spec = tie.close (tie.spec beats-requires returns returns-2 returns-3)
+consider-spec = tie.close (tie.spec (λ c κs. search needs) returns returns-2 (λ c. search needs))

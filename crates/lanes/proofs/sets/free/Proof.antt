@@ -10,13 +10,10 @@ use Rattle.lanes.proofs.sets.free.Tie as tie
 returns : tie.Need-returns
 returns c = let a = c .before .args in sym (ap (λ (t : Bool). if t then false else not (bit (a .set) (a .i))) (eq-eqb (a .i) (a .o) (c .if1 .taken)))
 
-has-requires : tie.Need-has-requires
-has-requires c κs = search needs
-
 returns-2 : tie.Need-returns-2
 returns-2 c =
     let a = c .before .before .args in
     ap not (c .has .ensures) ∙ sym (ap (λ (t : Bool). if t then false else not (bit (a .set) (a .i))) (ne-eqb (a .i) (a .o) (c .before .if1 .left)))
 
 pub free-spec : {M : Type 1} → statement M
-free-spec = tie.close (tie.spec returns has-requires returns-2)
+free-spec = tie.close (tie.spec returns (λ c κs. search needs) returns-2)

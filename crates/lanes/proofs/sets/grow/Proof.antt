@@ -1,6 +1,6 @@
 use mathlib.Core.Path.{_≡_, sym, _∙_, ap, subst}
 use mathlib.Core.Logic.{inr}
-use Prim.Native.Nat.{ℕ, _+_, _*_, _^_, _≤_, _<_}
+use Prim.Native.Nat.{ℕ, _+_, _<_}
 use native.Mathlib.Nat.{lt-of-lt-of-le}
 use native.Mathlib.Omega.{arith}
 use lib.Dec.{lit<}
@@ -19,9 +19,6 @@ use Rattle.lanes.specs.declared.sets.Growing.{Growing}
 use Rattle.lanes.proofs.Growth.{FreeLane, free-lane, grown-more, reaches-more}
 use Rattle.lanes.proofs.sets.grow.Statement.{statement}
 use Rattle.lanes.proofs.sets.grow.Tie as tie
-
-next-requires : tie.Need-next-requires
-next-requires c κs = search needs
 
 returns : tie.Need-returns
 returns c =
@@ -75,4 +72,4 @@ returns-2 c =
     (more .0, λ m r. subst (Reaches (a .n) (a .o) (m + 1)) (sym (more .1)) (reaches-more (a .q) (a .n) (v e) (a .o) (s e .pre .1 .some) (a .s) g (l e) (f .below) (f .left) (f .best) m r))
 
 pub grow-spec : {M : Type 1} → statement M
-grow-spec = tie.close (tie.spec next-requires returns add-requires returns-2)
+grow-spec = tie.close (tie.spec (λ c κs. search needs) returns add-requires returns-2)

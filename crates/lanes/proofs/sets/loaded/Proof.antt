@@ -8,9 +8,6 @@ use Rattle.exact.specs.Choice.{if_then_else_}
 use Rattle.lanes.proofs.sets.loaded.Statement.{statement}
 use Rattle.lanes.proofs.sets.loaded.Tie as tie
 
-with-requires : tie.Need-with-requires
-with-requires c κs = search needs
-
 returns : tie.Need-returns
 returns c = let a = c .before .before .args in c .with .ensures ∙ sym (ap (λ (t : Bool). if t then a .set + 2 ^ a .lane else a .set) (lt-ltb (a .lane) 5 (omega arith)))
 
@@ -18,4 +15,4 @@ returns-2 : tie.Need-returns-2
 returns-2 c = let a = c .before .args in sym (ap (λ (t : Bool). if t then a .set + 2 ^ a .lane else a .set) (le-ltb (a .lane) 5 (omega arith)))
 
 pub loaded-spec : {M : Type 1} → statement M
-loaded-spec = tie.close (tie.spec with-requires returns returns-2)
+loaded-spec = tie.close (tie.spec (λ c κs. search needs) returns returns-2)

@@ -23,24 +23,6 @@ abbrev μ-loop : tie.MeasureT-loop
 loop-holds : tie.Need-loop-holds Inv-loop μ-loop
 loop-holds c = (omega arith, none refl refl (λ i h. absurd (omega arith)))
 
-free-requires : tie.Need-free-requires Inv-loop μ-loop
-free-requires c κs = omega arith
-
-mul-consider : tie.Need-mul-consider Inv-loop μ-loop
-mul-consider c = omega arith
-
-array-copy-out-consider : tie.Need-array-copy-out-consider Inv-loop μ-loop
-array-copy-out-consider c = omega arith
-
-consider-requires : tie.Need-consider-requires Inv-loop μ-loop
-consider-requires c κs = search needs
-
-add-i : tie.Need-add-i Inv-loop μ-loop
-add-i c = omega arith
-
-loop-less : tie.Need-loop-less Inv-loop μ-loop
-loop-less c = omega arith
-
 loop-again : tie.Need-loop-again Inv-loop μ-loop
 loop-again c =
     let s = c .before .before .before .before .before in
@@ -66,11 +48,11 @@ next-spec =
     Inv-loop
     μ-loop
     loop-holds
-    free-requires
-    mul-consider
-    array-copy-out-consider
-    consider-requires
-    add-i
-    loop-less
+    (λ c κs. omega arith)
+    (λ c. omega arith)
+    (λ c. omega arith)
+    (λ c κs. search needs)
+    (λ c. omega arith)
+    (λ c. omega arith)
     loop-again
     returns)

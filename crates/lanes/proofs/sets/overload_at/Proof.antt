@@ -1,5 +1,4 @@
-use mathlib.Core.Path.{_≡_, refl, sym, _∙_, ap, subst}
-use Prim.Native.Nat.{ℕ}
+use mathlib.Core.Path.{refl, sym, _∙_, ap, subst}
 use lib.Count.{ones}
 use lib.Dec.{lit<}
 use lib.IntN.{ℤ, pos, _+ℤ_, _*ℤ_}
@@ -17,12 +16,6 @@ use Rattle.lanes.specs.Sets.{valueAt}
 use Rattle.lanes.proofs.Best.{set-near}
 use Rattle.lanes.proofs.sets.overload_at.Statement.{statement}
 use Rattle.lanes.proofs.sets.overload_at.Tie as tie
-
-beside-requires : tie.Need-beside-requires
-beside-requires c κs = search needs
-
-reduction-requires : tie.Need-reduction-requires
-reduction-requires c κs = search needs
 
 module _ (c : tie.After-reduction) where
   abbrev s : tie.Start
@@ -64,4 +57,4 @@ returns c =
     }
 
 pub overload-at-spec : {M : Type 1} → statement M
-overload-at-spec = tie.close (tie.spec beside-requires reduction-requires mul-value add-value returns)
+overload-at-spec = tie.close (tie.spec (λ c κs. search needs) (λ c κs. search needs) mul-value add-value returns)

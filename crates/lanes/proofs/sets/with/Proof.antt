@@ -1,5 +1,5 @@
 use mathlib.Core.Path.{_≡_, _∙_, ap}
-use Prim.Native.Nat.{ℕ, _+_, _%_, _*_, _^_, _≤_, _<_}
+use Prim.Native.Nat.{ℕ, _+_, _%_, _*_, _^_, _<_}
 use native.Mathlib.Nat.{one-mul}
 use native.Mathlib.Omega.{arith}
 use lib.Dec.{lit<}
@@ -7,12 +7,6 @@ use lib.Pow.{pow-mono, shl-exact}
 use borrow.Author.Needs.{needs}
 use Rattle.lanes.proofs.sets.with.Statement.{statement}
 use Rattle.lanes.proofs.sets.with.Tie as tie
-
-cast-result : tie.Need-cast-result
-cast-result c = search needs
-
-shl-result : tie.Need-shl-result
-shl-result c = search needs
 
 -- the lane's bit
 bit-is : (i : ℕ) → i < 5 → 1 * 2 ^ i % 2 ^ 32 ≡ 2 ^ i
@@ -25,4 +19,4 @@ returns : tie.Need-returns
 returns c = ap (λ (x : ℕ). c .args .set + x) (bit-is (c .args .i) (omega arith))
 
 pub with-spec : {M : Type 1} → statement M
-with-spec = tie.close (tie.spec cast-result shl-result add-result returns)
+with-spec = tie.close (tie.spec (λ c. search needs) (λ c. search needs) add-result returns)

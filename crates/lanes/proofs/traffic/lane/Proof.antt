@@ -12,9 +12,6 @@ returns c =
     let a = c .before .args in
     sym (ap (λ (t : Bool). laneBy (a .hn) (a .over) t (bit (a .set) (a .i))) (eq-eqb (a .i) (a .ho) (c .if1 .taken)))
 
-has-requires : tie.Need-has-requires
-has-requires c κs = search needs
-
 returns-2 : tie.Need-returns-2
 returns-2 c =
     let a = c .before .before .before .args in
@@ -26,4 +23,4 @@ returns-3 c =
     sym (ap₂ (laneBy (a .hn) (a .over)) (ne-eqb (a .i) (a .ho) (c .before .before .if1 .left)) (sym (c .before .has .ensures) ∙ c .if2 .left))
 
 pub lane-spec : {M : Type 1} → statement M
-lane-spec = tie.close (tie.spec returns has-requires returns-2 returns-3)
+lane-spec = tie.close (tie.spec returns (λ c κs. search needs) returns-2 returns-3)

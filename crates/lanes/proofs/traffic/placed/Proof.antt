@@ -18,33 +18,6 @@ abbrev μ-loop : tie.MeasureT-loop
 loop-holds : tie.Need-loop-holds Inv-loop μ-loop
 loop-holds c = (omega arith, filled-none _ 5 emptyLane)
 
-mul-a : tie.Need-mul-a Inv-loop μ-loop
-mul-a c = omega arith
-
-array-copy-out-a : tie.Need-array-copy-out-a Inv-loop μ-loop
-array-copy-out-a c = omega arith
-
-mul-b : tie.Need-mul-b Inv-loop μ-loop
-mul-b c = omega arith
-
-array-copy-out-b : tie.Need-array-copy-out-b Inv-loop μ-loop
-array-copy-out-b c = omega arith
-
-lane-requires : tie.Need-lane-requires Inv-loop μ-loop
-lane-requires c κs = omega arith
-
-mul-lanes : tie.Need-mul-lanes Inv-loop μ-loop
-mul-lanes c = omega arith
-
-array-set-from-lanes : tie.Need-array-set-from-lanes Inv-loop μ-loop
-array-set-from-lanes c = omega arith
-
-add-i : tie.Need-add-i Inv-loop μ-loop
-add-i c = omega arith
-
-loop-less : tie.Need-loop-less Inv-loop μ-loop
-loop-less c = omega arith
-
 loop-again : tie.Need-loop-again Inv-loop μ-loop
 loop-again c = (omega arith, filled-more (c .lane .result) (omega arith) (c .before .before .before .before .loop .inv .1) (c .lane .ensures))
 
@@ -60,14 +33,14 @@ placed-spec =
     Inv-loop
     μ-loop
     loop-holds
-    mul-a
-    array-copy-out-a
-    mul-b
-    array-copy-out-b
-    lane-requires
-    mul-lanes
-    array-set-from-lanes
-    add-i
-    loop-less
+    (λ c. omega arith)
+    (λ c. omega arith)
+    (λ c. omega arith)
+    (λ c. omega arith)
+    (λ c κs. omega arith)
+    (λ c. omega arith)
+    (λ c. omega arith)
+    (λ c. omega arith)
+    (λ c. omega arith)
     loop-again
     returns)

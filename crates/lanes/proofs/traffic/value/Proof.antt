@@ -27,23 +27,11 @@ module _ (s : tie.Start) where
   abbrev x : Kept w64 7020000000000000000 (pos 3 *ℤ (pos (s .args .dynamic) *ℤ s .args .sum))
   x = (_, times (lit w64 3 (lit< tt)) (scaled .1) (lit< tt))
 
-cast-x : tie.Need-cast-x
-cast-x c = search needs
-
 mul-x : tie.Need-mul-x
 mul-x c = times! (dynamic c .1) (sum c .1) (lit< tt)
 
 mul-x-2 : tie.Need-mul-x-2
 mul-x-2 c = times! (lit w64 3 (lit< tt)) (scaled c .1) (lit< tt)
-
-cast-unit : tie.Need-cast-unit
-cast-unit c = search needs
-
-mul-unit : tie.Need-mul-unit
-mul-unit c = search needs
-
-rounded-requires : tie.Need-rounded-requires
-rounded-requires c κs = search needs
 
 returns : tie.Need-returns
 unfolding effectOf
@@ -55,4 +43,4 @@ returns c =
     rw (back w64 (c .rounded .ok) e) (refl, quotient-near q _ unit (omega arith) (within-le (x s .1 .near) (omega arith)))
 
 pub value-spec : {M : Type 1} → statement M
-value-spec = tie.close (tie.spec cast-x mul-x mul-x-2 cast-unit mul-unit rounded-requires returns)
+value-spec = tie.close (tie.spec (λ c. search needs) mul-x mul-x-2 (λ c. search needs) (λ c. search needs) (λ c κs. search needs) returns)

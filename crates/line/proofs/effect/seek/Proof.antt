@@ -20,15 +20,6 @@ use borrow.Author.Needs.{needs}
 use Rattle.line.proofs.effect.seek.Statement.{statement}
 use Rattle.line.proofs.effect.seek.Tie as tie
 
-best-ranks-requires : tie.Need-best-ranks-requires
-best-ranks-requires c κs = search needs
-
-double-area-requires : tie.Need-double-area-requires
-double-area-requires c κs = search needs
-
-double-area-requires-2 : tie.Need-double-area-requires-2
-double-area-requires-2 c κs = search needs
-
 module _ (c : tie.After-best-ranks) where
   abbrev st : tie.Start
   st = c .before .before
@@ -83,9 +74,9 @@ pub seek-spec : {M : Type 1} → statement M
 seek-spec =
     tie.close
     (tie.spec
-    best-ranks-requires
-    double-area-requires
-    double-area-requires-2
+    (λ c κs. search needs)
+    (λ c κs. search needs)
+    (λ c κs. search needs)
     sought-at-requires
     sought-at-requires-2
     returns)

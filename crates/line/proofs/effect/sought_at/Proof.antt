@@ -20,21 +20,6 @@ use borrow.Author.Needs.{needs}
 use Rattle.line.proofs.effect.sought_at.Statement.{statement}
 use Rattle.line.proofs.effect.sought_at.Tie as tie
 
-question-requires : tie.Need-question-requires
-question-requires c κs = search needs
-
-stand-of-requires : tie.Need-stand-of-requires
-stand-of-requires c κs = search needs
-
-cast-t9 : tie.Need-cast-t9
-cast-t9 c = search needs
-
-spacing-requires : tie.Need-spacing-requires
-spacing-requires c κs = search needs
-
-cast-t11 : tie.Need-cast-t11
-cast-t11 c = search needs
-
 module _ (c : tie.After-spacing) where
   abbrev at : tie.After-stand-of
   at = c .before .before
@@ -95,4 +80,4 @@ returns c line same found =
 pub sought-at-spec : {M : Type 1} → statement M
 sought-at-spec =
     tie.close
-    (tie.spec question-requires stand-of-requires cast-t9 spacing-requires cast-t11 sub-t12 returns)
+    (tie.spec (λ c κs. search needs) (λ c κs. search needs) (λ c. search needs) (λ c κs. search needs) (λ c. search needs) sub-t12 returns)

@@ -16,21 +16,6 @@ use borrow.Author.Needs.{needs}
 use Rattle.line.proofs.pair.best_ranks.Statement.{statement}
 use Rattle.line.proofs.pair.best_ranks.Tie as tie
 
-places-apart-requires : tie.Need-places-apart-requires
-places-apart-requires c κs = search needs
-
-mul-end : tie.Need-mul-end
-mul-end c = search needs
-
-lesser-requires : tie.Need-lesser-requires
-lesser-requires c κs = search needs
-
-rank-requires : tie.Need-rank-requires
-rank-requires c κs = search needs
-
-rank-requires-2 : tie.Need-rank-requires-2
-rank-requires-2 c κs = search needs
-
 module _ (c : tie.After-rank2) where
   abbrev cut : tie.After-lesser
   cut = c .before .before
@@ -77,15 +62,6 @@ stretch-requires c κs = (omega arith, omega (arith, edged c, cut c .before .pla
 stretch-requires-2 : tie.Need-stretch-requires-2
 stretch-requires-2 c κs = let d = c .before in (omega (arith, edged d), omega (arith, st d .pre .0 .few), λ k a b. (omega (arith, edged d), word d (k - apart d) (omega arith), word d k (omega arith)))
 
-sub-from : tie.Need-sub-from
-sub-from c = search needs
-
-add-from : tie.Need-add-from
-add-from c = search needs
-
-add-stretch : tie.Need-add-stretch
-add-stretch c = search needs
-
 stretch-requires-3 : tie.Need-stretch-requires-3
 stretch-requires-3 c κs =
     let d = c .before .before in
@@ -106,15 +82,15 @@ pub best-ranks-spec : {M : Type 1} → statement M
 best-ranks-spec =
     tie.close
     (tie.spec
-    places-apart-requires
-    mul-end
-    lesser-requires
-    rank-requires
-    rank-requires-2
+    (λ c κs. search needs)
+    (λ c. search needs)
+    (λ c κs. search needs)
+    (λ c κs. search needs)
+    (λ c κs. search needs)
     stretch-requires
     stretch-requires-2
-    sub-from
-    add-from
-    add-stretch
+    (λ c. search needs)
+    (λ c. search needs)
+    (λ c. search needs)
     stretch-requires-3
     returns)

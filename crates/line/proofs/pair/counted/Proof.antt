@@ -12,14 +12,8 @@ use Rattle.line.proofs.pair.counted.Tie as tie
 fits : (s : tie.Start) {on : Axles} → s .args .on ≡ on → CountFits (s .args .line .now) on (s .args .k)
 fits s e = subst (λ (on : Axles). CountFits (s .args .line .now) on (s .args .k)) e (s .pre)
 
-enum-told : tie.Need-enum-told
-enum-told c = search needs
-
 ordinate-requires : tie.Need-ordinate-requires
 ordinate-requires c κs = fits (c .before .before .before) (c .enum-told .given .1)
-
-enum-known-on : tie.Need-enum-known-on
-enum-known-on c = search needs
 
 sub-ordinate : tie.Need-sub-ordinate
 sub-ordinate c = fits (c .before .before .before .before) (c .before .on .given .1) .0
@@ -32,9 +26,6 @@ ordinate-requires-3 c κs = let d = c .before in fits (d .before .before .before
 
 add-result : tie.Need-add-result
 add-result c = plus! (got w32 (c .before .ordinate2 .ok) (c .before .ordinate2 .ensures)) (got w32 (c .ordinate3 .ok) (c .ordinate3 .ensures)) (lit< tt)
-
-enum-known-on-2 : tie.Need-enum-known-on-2
-enum-known-on-2 c = search needs
 
 sub-ordinate-2 : tie.Need-sub-ordinate-2
 sub-ordinate-2 c = fits (c .before .before .before .before) (c .before .on2 .given .1) .0
@@ -55,14 +46,14 @@ pub counted-spec : {M : Type 1} → statement M
 counted-spec =
     tie.close
     (tie.spec
-    enum-told
+    (λ c. search needs)
     ordinate-requires
-    enum-known-on
+    (λ c. search needs)
     sub-ordinate
     ordinate-requires-2
     ordinate-requires-3
     add-result
-    enum-known-on-2
+    (λ c. search needs)
     sub-ordinate-2
     ordinate-requires-4
     returns

@@ -13,9 +13,6 @@ use borrow.Author.Needs.{needs}
 use Rattle.line.proofs.pair.improved.Statement.{statement}
 use Rattle.line.proofs.pair.improved.Tie as tie
 
-rank-requires : tie.Need-rank-requires
-rank-requires c κs = search needs
-
 module _ (c : tie.After-rank) where
   abbrev st : tie.Start
   st = c .before
@@ -36,9 +33,6 @@ cast-beats c = cast! (next c) w64 (lit< tt)
 cast-beats-2 : tie.Need-cast-beats-2
 cast-beats-2 c = cast! (so-far c) w64 (lit< tt)
 
-beats-requires : tie.Need-beats-requires
-beats-requires c κs = search needs
-
 -- the test's answer is that of the two ranks
 tested : (c : tie.After-beats) {t : Bool} → c .beats .result ≡ t → beats (st (c .before) .args .q) (new (c .before)) (st (c .before) .args .best) ≡ t
 tested c e = let d = c .before in beats-held (cast (next d) w64 (lit< tt)) (cast (so-far d) w64 (lit< tt)) (st d .args .q) (c .beats .ensures) e
@@ -51,4 +45,4 @@ returns-2 c = let d = c .before .before in so-far d .is ∙ sym (beats-no (st d 
 
 pub improved-spec : {M : Type 1} → statement M
 improved-spec =
-    tie.close (tie.spec rank-requires cast-beats cast-beats-2 beats-requires returns returns-2)
+    tie.close (tie.spec (λ c κs. search needs) cast-beats cast-beats-2 (λ c κs. search needs) returns returns-2)

@@ -29,12 +29,6 @@ add-result c = plus! (lit w32 10000 (lit< tt)) (ordinates c .1) (lit< tt)
 mul-result : tie.Need-mul-result
 mul-result c = times! (lit w32 4096 (lit< tt)) (raised c .1) (lit< tt)
 
-turn-requires : tie.Need-turn-requires
-turn-requires c κs = search needs
-
-cast-result : tie.Need-cast-result
-cast-result c = search needs
-
 add-result-2 : tie.Need-add-result-2
 add-result-2 c = plus! (scaled (c .before) .1) (place c .1) (lit< tt)
 
@@ -43,4 +37,4 @@ returns c = told (loosen (plus (scaled (c .before) .1) (place c .1) (lit< tt)) (
 
 pub rank-spec : {M : Type 1} → statement M
 rank-spec =
-    tie.close (tie.spec add-result mul-result turn-requires cast-result add-result-2 returns)
+    tie.close (tie.spec add-result mul-result (λ c κs. search needs) (λ c. search needs) add-result-2 returns)

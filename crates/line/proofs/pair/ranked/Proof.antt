@@ -11,12 +11,6 @@ use borrow.Author.Needs.{needs}
 use Rattle.line.proofs.pair.ranked.Statement.{statement}
 use Rattle.line.proofs.pair.ranked.Tie as tie
 
-improved-requires : tie.Need-improved-requires
-improved-requires c κs = search needs
-
-improved-requires-2 : tie.Need-improved-requires-2
-improved-requires-2 c κs = search needs
-
 module _ (s : tie.Start) (q : Question) where
   -- by rank and ordinates as they were passed
   abbrev passed : ℤ
@@ -30,4 +24,4 @@ returns c Greatest = let g = c .before .before in back w32 (g .improved .ok) (ri
 returns c Least = back w32 (c .improved2 .ok) (right (c .before .before .before .before) Least (search needs) (c .improved2 .ensures))
 
 pub ranked-spec : {M : Type 1} → statement M
-ranked-spec = tie.close (tie.spec improved-requires improved-requires-2 returns)
+ranked-spec = tie.close (tie.spec (λ c κs. search needs) (λ c κs. search needs) returns)

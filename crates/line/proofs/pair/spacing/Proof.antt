@@ -4,11 +4,8 @@ use borrow.Author.Needs.{needs}
 use Rattle.line.proofs.pair.spacing.Statement.{statement}
 use Rattle.line.proofs.pair.spacing.Tie as tie
 
-div-result : tie.Need-div-result
-div-result c = search needs
-
 returns : tie.Need-returns
 returns c = (refl, div-le-self 50 (c .args .h))
 
 pub spacing-spec : {M : Type 1} → statement M
-spacing-spec = tie.close (tie.spec div-result returns)
+spacing-spec = tie.close (tie.spec (λ c. search needs) returns)

@@ -35,12 +35,6 @@ module _ (s : tie.Start) where
 cast-x : tie.Need-cast-x
 cast-x c = index! (any (c .fits .rank)) (natural c) w64 (lit< tt)
 
-turn-requires : tie.Need-turn-requires
-turn-requires c κs = search needs
-
-side-of-requires : tie.Need-side-of-requires
-side-of-requires c κs = search needs
-
 cast-t7 : tie.Need-cast-t7
 cast-t7 c = let l = small (c .before .before) in search needs
 
@@ -65,4 +59,4 @@ returns : tie.Need-returns
 returns c = (is-stand c, omega (arith, c .before .turn .ensures .1))
 
 pub stand-of-spec : {M : Type 1} → statement M
-stand-of-spec = tie.close (tie.spec cast-x turn-requires side-of-requires cast-t7 sub-t8 returns)
+stand-of-spec = tie.close (tie.spec cast-x (λ c κs. search needs) (λ c κs. search needs) cast-t7 sub-t8 returns)

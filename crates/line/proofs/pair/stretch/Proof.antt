@@ -43,9 +43,6 @@ ranked-requires c κs = (told (ordinates c .1) .1, late c)
 add-k : tie.Need-add-k Inv-loop μ-loop
 add-k c = omega (arith, late (c .before))
 
-loop-less : tie.Need-loop-less Inv-loop μ-loop
-loop-less c = omega arith
-
 loop-again : tie.Need-loop-again Inv-loop μ-loop
 loop-again c =
     let d = c .before in
@@ -72,6 +69,6 @@ stretch-spec =
     add-ranked
     ranked-requires
     add-k
-    loop-less
+    (λ c. omega arith)
     loop-again
     returns)

@@ -28,12 +28,6 @@ loaded-sum-requires c κs = fits-piece (c .before .before .before .pre .0) (c .b
 add-sum : tie.Need-add-sum Inv-loop μ-loop
 add-sum c = plus! (c .before .before .loop .inv .1) (got w32 (c .loaded-sum .ok) (c .loaded-sum .ensures)) (omega (arith, c .before .before .before .before .pre .0 .few))
 
-add-i : tie.Need-add-i Inv-loop μ-loop
-add-i c = omega arith
-
-loop-less : tie.Need-loop-less Inv-loop μ-loop
-loop-less c = omega arith
-
 loop-again : tie.Need-loop-again Inv-loop μ-loop
 loop-again c =
     let few = c .before .before .before .before .pre .0 .few in
@@ -58,9 +52,6 @@ module _ (c : tie.After-loop Inv-loop μ-loop) where
   room : st .args .h * (10000 * st .args .n) ≤ 10000000
   room = area-room (st .args .h) (st .args .n) (st .pre .1 .1)
 
-cast-result : tie.Need-cast-result Inv-loop μ-loop
-cast-result c = search needs
-
 cast-result-2 : tie.Need-cast-result-2 Inv-loop μ-loop
 cast-result-2 c = cast! (total c) w64 (wide c)
 
@@ -80,10 +71,10 @@ double-area-spec =
     loop-holds
     loaded-sum-requires
     add-sum
-    add-i
-    loop-less
+    (λ c. omega arith)
+    (λ c. omega arith)
     loop-again
-    cast-result
+    (λ c. search needs)
     cast-result-2
     mul-result
     returns)

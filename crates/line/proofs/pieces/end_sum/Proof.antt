@@ -9,17 +9,8 @@ use Rattle.line.proofs.Fitting.{piece-word}
 use Rattle.line.proofs.pieces.end_sum.Statement.{statement}
 use Rattle.line.proofs.pieces.end_sum.Tie as tie
 
-mul-ordinate : tie.Need-mul-ordinate
-mul-ordinate c = search needs
-
 ordinate-requires : tie.Need-ordinate-requires
 ordinate-requires c κs = piece-word (c .before .pre) _ (omega arith) (omega arith)
-
-mul-ordinate-2 : tie.Need-mul-ordinate-2
-mul-ordinate-2 c = search needs
-
-add-ordinate : tie.Need-add-ordinate
-add-ordinate c = search needs
 
 ordinate-requires-2 : tie.Need-ordinate-requires-2
 ordinate-requires-2 c κs = piece-word (c .before .before .pre) _ (omega arith) (omega arith)
@@ -44,10 +35,10 @@ pub end-sum-spec : {M : Type 1} → statement M
 end-sum-spec =
     tie.close
     (tie.spec
-    mul-ordinate
+    (λ c. search needs)
     ordinate-requires
-    mul-ordinate-2
-    add-ordinate
+    (λ c. search needs)
+    (λ c. search needs)
     ordinate-requires-2
     add-result
     returns)

@@ -10,15 +10,6 @@ use borrow.Author.Needs.{needs}
 use Rattle.line.proofs.pieces.loaded_sum.Statement.{statement}
 use Rattle.line.proofs.pieces.loaded_sum.Tie as tie
 
-patch-byte-requires : tie.Need-patch-byte-requires
-patch-byte-requires c κs = search needs
-
-loaded-byte-requires : tie.Need-loaded-byte-requires
-loaded-byte-requires c κs = search needs
-
-end-sum-requires : tie.Need-end-sum-requires
-end-sum-requires c κs = search needs
-
 returns : tie.Need-returns
 returns c =
     let d = c .before in
@@ -37,4 +28,4 @@ returns-2 c =
 pub loaded-sum-spec : {M : Type 1} → statement M
 loaded-sum-spec =
     tie.close
-    (tie.spec patch-byte-requires loaded-byte-requires end-sum-requires returns returns-2)
+    (tie.spec (λ c κs. search needs) (λ c κs. search needs) (λ c κs. search needs) returns returns-2)

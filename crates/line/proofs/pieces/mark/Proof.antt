@@ -28,12 +28,6 @@ slice-write-patch c =
     let st = c .before .before .before .before .before in
     rw (l .inv .1, length-marked (λ j. patchByte (pieceAt (st .args .line .now) j)) (l .i) (st .args .patch .now) (omega arith)) (omega arith)
 
-add-i : tie.Need-add-i Inv-loop μ-loop
-add-i c = omega arith
-
-loop-less : tie.Need-loop-less Inv-loop μ-loop
-loop-less c = omega arith
-
 loop-again : tie.Need-loop-again Inv-loop μ-loop
 loop-again c =
     let l = c .before .before .loop in
@@ -64,8 +58,8 @@ mark-spec =
     loop-holds
     patch-byte-requires
     slice-write-patch
-    add-i
-    loop-less
+    (λ c. omega arith)
+    (λ c. omega arith)
     loop-again
     same-length
     returns)

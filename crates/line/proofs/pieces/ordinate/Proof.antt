@@ -9,9 +9,6 @@ use Rattle.line.proofs.pieces.ordinate.Tie as tie
 abbrev read : (c : tie.After-word) → Kept w64 5000 (wordAt (c .before .before .args .line .now) (c .before .before .args .k))
 read c = (_, ret w64 (c .word .ok) (c .word .ensures .0) (c .before .before .pre .near))
 
-word-requires : tie.Need-word-requires
-word-requires c κs = search needs
-
 cast-result : tie.Need-cast-result
 cast-result c = cast! (read c .1) w32 (lit< tt)
 
@@ -19,4 +16,4 @@ returns : tie.Need-returns
 returns c = told (cast (read c .1) w32 (lit< tt))
 
 pub ordinate-spec : {M : Type 1} → statement M
-ordinate-spec = tie.close (tie.spec word-requires cast-result returns)
+ordinate-spec = tie.close (tie.spec (λ c κs. search needs) cast-result returns)

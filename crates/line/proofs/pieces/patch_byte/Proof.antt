@@ -9,9 +9,6 @@ use borrow.Author.Needs.{needs}
 use Rattle.line.proofs.pieces.patch_byte.Statement.{statement}
 use Rattle.line.proofs.pieces.patch_byte.Tie as tie
 
-end-sum-requires : tie.Need-end-sum-requires
-end-sum-requires c κs = search needs
-
 abbrev zero : Kept w32 0 (pos 0)
 zero = (_, lit w32 0 (lit< tt))
 
@@ -31,4 +28,4 @@ unfolding patchByte
 returns-3 c = rw (lt-no (zero .1) (sum (c .before .before) .1) (c .before .if1 .left), lt-no (sum (c .before .before) .1) (zero .1) (c .if2 .left)) refl
 
 pub patch-byte-spec : {M : Type 1} → statement M
-patch-byte-spec = tie.close (tie.spec end-sum-requires returns returns-2 returns-3)
+patch-byte-spec = tie.close (tie.spec (λ c κs. search needs) returns returns-2 returns-3)

@@ -70,12 +70,6 @@ module _ (c : tie.After-extended2 Inv-loop μ-loop) where
 next-requires : tie.Need-next-requires Inv-loop μ-loop
 next-requires c κs = (pos-of-ne-zero (else c .if1 .left), at c .loop .inv .1)
 
-add-counter : tie.Need-add-counter Inv-loop μ-loop
-add-counter c = omega arith
-
-loop-less : tie.Need-loop-less Inv-loop μ-loop
-loop-less c = omega arith
-
 loop-again : tie.Need-loop-again Inv-loop μ-loop
 loop-again c =
     let d = c .before in
@@ -94,4 +88,4 @@ returns-2 : tie.Need-returns-2 Inv-loop μ-loop
 returns-2 c = let l = c .before in ended l (terms-spent (s l .args .records .now) (s l .args .count - l .loop .counter) (l .loop .c) (omega arith))
 
 pub best-spec : {M : Type 1} → statement M
-best-spec = tie.close (tie.spec Inv-loop μ-loop loop-holds returns share-of-requires extended-requires extended-requires-2 next-requires add-counter loop-less loop-again returns-2)
+best-spec = tie.close (tie.spec Inv-loop μ-loop loop-holds returns share-of-requires extended-requires extended-requires-2 next-requires (λ c. omega arith) (λ c. omega arith) loop-again returns-2)

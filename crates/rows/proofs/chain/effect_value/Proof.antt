@@ -8,15 +8,6 @@ use borrow.Author.Needs.{needs}
 use Rattle.rows.proofs.chain.effect_value.Statement.{statement}
 use Rattle.rows.proofs.chain.effect_value.Tie as tie
 
-sub-word : tie.Need-sub-word
-sub-word c = search needs
-
-mul-word : tie.Need-mul-word
-mul-word c = search needs
-
-word-requires : tie.Need-word-requires
-word-requires c κs = search needs
-
 -- the word read
 abbrev word : (c : tie.After-word) → Kept w64 1000000000 (wordAt (c .before .before .args .effects .now) (2 * (c .before .before .args .e - 1)))
 word c = let s = c .before .before in (_, ret w64 (c .word .ok) (c .word .ensures .0) (s .pre .0 (s .args .e) (s .pre .1) (s .pre .2)))
@@ -28,4 +19,4 @@ returns : tie.Need-returns
 returns c = let v = times (lit w64 1000 (lit< tt)) (word c .1) (lit< tt) in rw (v .is) (refl, v .near)
 
 pub effect-value-spec : {M : Type 1} → statement M
-effect-value-spec = tie.close (tie.spec sub-word mul-word word-requires mul-result returns)
+effect-value-spec = tie.close (tie.spec (λ c. search needs) (λ c. search needs) (λ c κs. search needs) mul-result returns)

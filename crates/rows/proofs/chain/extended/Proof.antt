@@ -6,9 +6,6 @@ use borrow.Author.Needs.{needs}
 use Rattle.rows.proofs.chain.extended.Statement.{statement}
 use Rattle.rows.proofs.chain.extended.Tie as tie
 
-leaves-requires : tie.Need-leaves-requires
-leaves-requires c κs = search needs
-
 returns : tie.Need-returns
 returns c =
     let then = c .before .before .before in
@@ -27,4 +24,4 @@ returns-2 c =
     rw (plus (known w64 (s .pre .1) (lit< tt)) (known w64 (s .pre .0) (lit< tt)) (lit< tt) .is, sym (else .before .leaves .ensures) ∙ else .if1 .left) refl
 
 pub extended-spec : {M : Type 1} → statement M
-extended-spec = tie.close (tie.spec leaves-requires returns add-t6 returns-2)
+extended-spec = tie.close (tie.spec (λ c κs. search needs) returns add-t6 returns-2)

@@ -8,17 +8,11 @@ use borrow.Author.Needs.{needs}
 use Rattle.rows.proofs.chain.leaves.Statement.{statement}
 use Rattle.rows.proofs.chain.leaves.Tie as tie
 
-beats-requires : tie.Need-beats-requires
-beats-requires c κs = search needs
-
 returns : tie.Need-returns
 returns c =
     let a = c .before .before .before .args in
     let fits : SFits w64 (a .share .value) = search needs in
     rw (c .before .before .if1 .taken) (c .beats .ensures ∙ ap (beats (a .q) (pos 0)) (any fits .is))
 
-returns-2 : tie.Need-returns-2
-returns-2 c = search needs
-
 pub leaves-spec : {M : Type 1} → statement M
-leaves-spec = tie.close (tie.spec beats-requires returns returns-2)
+leaves-spec = tie.close (tie.spec (λ c κs. search needs) returns (λ c. search needs))

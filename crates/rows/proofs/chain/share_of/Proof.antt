@@ -14,15 +14,6 @@ use borrow.Author.Needs.{needs}
 use Rattle.rows.proofs.chain.share_of.Statement.{statement}
 use Rattle.rows.proofs.chain.share_of.Tie as tie
 
-effect-requires : tie.Need-effect-requires
-effect-requires c κs = search needs
-
-factor-requires : tie.Need-factor-requires
-factor-requires c κs = search needs
-
-cast-t6 : tie.Need-cast-t6
-cast-t6 c = search needs
-
 -- where the record's effect has been read
 module _ (c : tie.After-effect) where
   abbrev s : tie.Start
@@ -73,4 +64,4 @@ returns c =
     })
 
 pub share-of-spec : {M : Type 1} → statement M
-share-of-spec = tie.close (tie.spec effect-requires factor-requires cast-t6 effect-value-requires mul-t8 optional-requires bit-of-requires returns)
+share-of-spec = tie.close (tie.spec (λ c κs. search needs) (λ c κs. search needs) (λ c. search needs) effect-value-requires mul-t8 optional-requires bit-of-requires returns)

@@ -2,11 +2,8 @@ use borrow.Author.Needs.{needs}
 use Rattle.rows.proofs.state.first_record.Statement.{statement}
 use Rattle.rows.proofs.state.first_record.Tie as tie
 
-word-requires : tie.Need-word-requires
-word-requires c κs = search needs
-
 returns : tie.Need-returns
 returns c = c .word .ensures .0
 
 pub first-record-spec : {M : Type 1} → statement M
-first-record-spec = tie.close (tie.spec word-requires returns)
+first-record-spec = tie.close (tie.spec (λ c κs. search needs) returns)

@@ -20,9 +20,6 @@ abbrev μ-loop : tie.MeasureT-loop
 loop-holds : tie.Need-loop-holds Inv-loop μ-loop
 loop-holds c = let a = c .before .before .before .args in (omega arith, found-none (effectAt (a .effects .now)) (rowAt (a .rows .now) (a .records .now) (a .count)) (trafficOf (a .live)) _ refl)
 
-add-row : tie.Need-add-row Inv-loop μ-loop
-add-row c = omega arith
-
 -- at a row
 module _ (c : tie.In-loop Inv-loop μ-loop) where
   abbrev s : tie.Start Inv-loop μ-loop
@@ -34,20 +31,8 @@ module _ (c : tie.In-loop Inv-loop μ-loop) where
 row-requires : tie.Need-row-requires Inv-loop μ-loop
 row-requires c κs = (tables-to (i c + 1) (s c .pre .0) (omega arith), omega arith, s c .pre .1)
 
-add-of-service : tie.Need-add-of-service Inv-loop μ-loop
-add-of-service c = omega arith
-
 of-service-requires : tie.Need-of-service-requires Inv-loop μ-loop
 of-service-requires c κs = (omega arith, tables-to (i (c .before) + 1) (s (c .before) .pre .0) (omega arith) .long)
-
-with-row-requires : tie.Need-with-row-requires Inv-loop μ-loop
-with-row-requires c κs = search needs
-
-add-i : tie.Need-add-i Inv-loop μ-loop
-add-i c = omega arith
-
-loop-less : tie.Need-loop-less Inv-loop μ-loop
-loop-less c = omega arith
 
 loop-again : tie.Need-loop-again Inv-loop μ-loop
 loop-again c =
@@ -68,4 +53,4 @@ returns c =
     subst (λ (k : ℕ). FoundRight (effectAt (a .effects .now)) (rowAt (a .rows .now) (a .records .now) (a .count)) (trafficOf (a .live)) k (l .found)) e (l .inv .1)
 
 pub governing-spec : {M : Type 1} → statement M
-governing-spec = tie.close (tie.spec Inv-loop μ-loop loop-holds add-row row-requires add-of-service of-service-requires with-row-requires add-i loop-less loop-again returns)
+governing-spec = tie.close (tie.spec Inv-loop μ-loop loop-holds (λ c. omega arith) row-requires (λ c. omega arith) of-service-requires (λ c κs. search needs) (λ c. omega arith) (λ c. omega arith) loop-again returns)

@@ -8,9 +8,6 @@ use borrow.Author.Needs.{needs}
 use Rattle.rows.proofs.state.laden.Statement.{statement}
 use Rattle.rows.proofs.state.laden.Tie as tie
 
-beats-requires : tie.Need-beats-requires
-beats-requires c κs = search needs
-
 returns : tie.Need-returns
 returns c =
     let then = c .before in
@@ -30,4 +27,4 @@ returns-2 c =
     rw (plus (known w64 (s .pre .0) (lit< tt)) load (lit< tt) .is, ap (beats (s .args .q) (pos 0)) (sym (load .is)) ∙ sym (else .before .beats .ensures) ∙ else .if1 .left) refl
 
 pub laden-spec : {M : Type 1} → statement M
-laden-spec = tie.close (tie.spec beats-requires returns add-t6 returns-2)
+laden-spec = tie.close (tie.spec (λ c κs. search needs) returns add-t6 returns-2)

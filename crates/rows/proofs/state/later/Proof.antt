@@ -12,9 +12,6 @@ use Rattle.rows.proofs.state.later.Tie as tie
 returns : tie.Need-returns
 returns c = rw (eq-eqb _ _ (c .if1 .taken)) refl
 
-beats-requires : tie.Need-beats-requires
-beats-requires c κs = search needs
-
 -- there is an earlier row, and the test's answer is that of the two values
 module _ (c : tie.After-beats) where
   abbrev else : tie.Else1
@@ -37,4 +34,4 @@ returns-3 : tie.Need-returns-3
 returns-3 c = rw (ne-eqb _ _ (else (c .before) .if1 .left), tested (c .before) (c .if2 .left)) refl
 
 pub later-spec : {M : Type 1} → statement M
-later-spec = tie.close (tie.spec returns beats-requires returns-2 returns-3)
+later-spec = tie.close (tie.spec returns (λ c κs. search needs) returns-2 returns-3)

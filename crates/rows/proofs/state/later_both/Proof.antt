@@ -3,14 +3,8 @@ use borrow.Author.Needs.{needs}
 use Rattle.rows.proofs.state.later_both.Statement.{statement}
 use Rattle.rows.proofs.state.later_both.Tie as tie
 
-later-requires : tie.Need-later-requires
-later-requires c κs = search needs
-
-later-requires-2 : tie.Need-later-requires-2
-later-requires-2 c κs = search needs
-
 returns : tie.Need-returns
 returns c = rw (c .before .later .ensures, c .later2 .ensures) refl
 
 pub later-both-spec : {M : Type 1} → statement M
-later-both-spec = tie.close (tie.spec later-requires later-requires-2 returns)
+later-both-spec = tie.close (tie.spec (λ c κs. search needs) (λ c κs. search needs) returns)

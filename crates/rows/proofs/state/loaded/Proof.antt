@@ -14,18 +14,6 @@ use borrow.Author.Needs.{needs}
 use Rattle.rows.proofs.state.loaded.Statement.{statement}
 use Rattle.rows.proofs.state.loaded.Tie as tie
 
-word-requires : tie.Need-word-requires
-word-requires c κs = search needs
-
-word-requires-2 : tie.Need-word-requires-2
-word-requires-2 c κs = search needs
-
-cast-result : tie.Need-cast-result
-cast-result c = search needs
-
-traffic-requires : tie.Need-traffic-requires
-traffic-requires c κs = search needs
-
 -- the factor and the traffic value
 module _ (c : tie.After-traffic) where
   abbrev s : tie.Start
@@ -46,4 +34,4 @@ returns : tie.Need-returns
 returns c = let v = times (factor c) (value c) (lit< tt) in rw (v .is) (refl, v .near)
 
 pub loaded-spec : {M : Type 1} → statement M
-loaded-spec = tie.close (tie.spec word-requires word-requires-2 cast-result traffic-requires mul-result returns)
+loaded-spec = tie.close (tie.spec (λ c κs. search needs) (λ c κs. search needs) (λ c. search needs) (λ c κs. search needs) mul-result returns)

@@ -7,9 +7,6 @@ use borrow.Author.Needs.{needs}
 use Rattle.rows.proofs.state.of_service.Statement.{statement}
 use Rattle.rows.proofs.state.of_service.Tie as tie
 
-word-requires : tie.Need-word-requires
-word-requires c κs = search needs
-
 returns : tie.Need-returns
 returns c =
     let a = c .before .before .args in
@@ -17,4 +14,4 @@ returns c =
     ap (λ (k : ℕ). eqb k 1) (c .word .ensures .0 ∙ ap (countAt (a .rows .now)) same)
 
 pub of-service-spec : {M : Type 1} → statement M
-of-service-spec = tie.close (tie.spec word-requires returns)
+of-service-spec = tie.close (tie.spec (λ c κs. search needs) returns)

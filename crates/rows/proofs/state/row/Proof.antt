@@ -19,9 +19,6 @@ use borrow.Author.Needs.{needs}
 use Rattle.rows.proofs.state.row.Statement.{statement}
 use Rattle.rows.proofs.state.row.Tie as tie
 
-first-record-requires : tie.Need-first-record-requires
-first-record-requires c κs = search needs
-
 -- where the row's first record has been read
 module _ (c : tie.After-first-record) where
   abbrev s : tie.Start
@@ -84,4 +81,4 @@ returns c =
     (laden-is Least (effect (b d)) (row (b d)) (at (b d) .args .live .least) (at (b d) .args .r) _ refl (chained (b d) Least) (c .laden2 .ensures) (least d .is))
 
 pub row-spec : {M : Type 1} → statement M
-row-spec = tie.close (tie.spec first-record-requires best-requires loaded-requires loaded-requires-2 laden-requires laden-requires-2 returns)
+row-spec = tie.close (tie.spec (λ c κs. search needs) best-requires loaded-requires loaded-requires-2 laden-requires laden-requires-2 returns)

@@ -6,15 +6,6 @@ use borrow.Author.Needs.{needs}
 use Rattle.rows.proofs.state.states.Statement.{statement}
 use Rattle.rows.proofs.state.states.Tie as tie
 
-governing-requires : tie.Need-governing-requires
-governing-requires c κs = search needs
-
-state-requires : tie.Need-state-requires
-state-requires c κs = search needs
-
-state-requires-2 : tie.Need-state-requires-2
-state-requires-2 c κs = search needs
-
 -- a limit state by what was found of it
 module _ (c : tie.After-governing) where
   abbrev s : tie.Start
@@ -29,4 +20,4 @@ returns c =
     by-limit _ (rw (c .before .state .ensures) (right d service)) (rw (c .state2 .ensures) (right d ultimate))
 
 pub states-spec : {M : Type 1} → statement M
-states-spec = tie.close (tie.spec governing-requires state-requires state-requires-2 returns)
+states-spec = tie.close (tie.spec (λ c κs. search needs) (λ c κs. search needs) (λ c κs. search needs) returns)

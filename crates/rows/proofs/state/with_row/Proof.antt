@@ -3,17 +3,11 @@ use borrow.Author.Needs.{needs}
 use Rattle.rows.proofs.state.with_row.Statement.{statement}
 use Rattle.rows.proofs.state.with_row.Tie as tie
 
-later-both-requires : tie.Need-later-both-requires
-later-both-requires c κs = search needs
-
 returns : tie.Need-returns
 returns c = rw (c .before .if1 .taken, c .later-both .ensures) refl
-
-later-both-requires-2 : tie.Need-later-both-requires-2
-later-both-requires-2 c κs = search needs
 
 returns-2 : tie.Need-returns-2
 returns-2 c = rw (c .before .if1 .left, c .later-both2 .ensures) refl
 
 pub with-row-spec : {M : Type 1} → statement M
-with-row-spec = tie.close (tie.spec later-both-requires returns later-both-requires-2 returns-2)
+with-row-spec = tie.close (tie.spec (λ c κs. search needs) returns (λ c κs. search needs) returns-2)
