@@ -67,15 +67,4 @@ returns c =
 pub put-lanes-spec : {M : Type 1} → statement M
 put-lanes-spec =
     tie.close
-    (tie.spec
-    Inv-loop
-    μ-loop
-    loop-holds
-    mul-lane
-    element-copy-out-lane
-    put-lane-requires
-    add-i
-    loop-less
-    loop-again
-    same-length
-    returns)
+    (tie.spec Inv-loop μ-loop loop-holds mul-lane element-copy-out-lane put-lane-requires add-i loop-less loop-again same-length returns)

@@ -38,14 +38,4 @@ returns-2 c =
     retold (sym (ap limitNumbers (p .before .before .before .s .given .1))) (p .put-reported .ensures)
 
 pub put-state-spec : {M : Type 1} → statement M
-put-state-spec =
-    tie.close
-    (tie.spec
-    enum-told
-    put-zeros-requires
-    enum-known-s
-    put-reported-requires
-    same-length
-    returns
-    same-length-2
-    returns-2)
+put-state-spec = tie.close (tie.spec enum-told put-zeros-requires enum-known-s put-reported-requires same-length returns same-length-2 returns-2)

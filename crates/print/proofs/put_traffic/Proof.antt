@@ -50,13 +50,5 @@ returns c =
 pub put-traffic-spec : {M : Type 1} → statement M
 put-traffic-spec =
     tie.close
-    (tie.spec
-    put-bytes-requires
-    slice-aggregate-put-value
-    put-value-requires
-    slice-aggregate-put-value-2
-    put-value-requires-2
-    slice-aggregate-put-bytes
-    put-bytes-requires-2
-    same-length
-    returns)
+    (tie.spec put-bytes-requires slice-aggregate-put-value put-value-requires slice-aggregate-put-value-2 put-value-requires-2 slice-aggregate-put-bytes
+    put-bytes-requires-2 same-length returns)
