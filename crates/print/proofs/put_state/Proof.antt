@@ -25,14 +25,5 @@ returns-2 c =
 pub put-state-spec : {M : Type 1} → statement M
 put-state-spec =
     tie.close
-    (tie.spec
-    (λ c κs. search needs)
-    (λ c. search needs)
-    (λ c. search needs)
-    (λ c κs. search needs)
-    (λ c. search needs)
-    (λ c κs. search needs)
-    (λ c. search needs)
-    returns
-    (λ c. search needs)
+    (tie.spec put-bytes-requires enum-told slice-aggregate-put-bytes put-bytes-requires-2 enum-known-s put-reported-requires same-length returns same-length-2
     returns-2)
