@@ -37,4 +37,4 @@ returns c =
 pub put-bits-spec : {M : Type 1} → statement M
 put-bits-spec =
     tie.close
-    (tie.spec Inv-loop μ-loop loop-holds cast-out add-out slice-write-out add-i loop-less loop-again add-result same-length returns)
+    (tie.spec Inv-loop μ-loop loop-holds (λ c. search needs) (λ c. omega arith) slice-write-out (λ c. omega arith) (λ c. omega arith) loop-again (λ c. omega arith) same-length returns)

@@ -39,4 +39,4 @@ returns c =
     none-left (ap (λ (k : ℕ). replicate k 0) e) (omega arith) (l .inv .1)
 
 pub put-zeros-spec : {M : Type 1} → statement M
-put-zeros-spec = tie.close (tie.spec Inv-loop μ-loop loop-holds add-out slice-write-out add-i loop-less loop-again add-result same-length returns)
+put-zeros-spec = tie.close (tie.spec Inv-loop μ-loop loop-holds (λ c. omega arith) slice-write-out (λ c. omega arith) (λ c. omega arith) loop-again (λ c. omega arith) same-length returns)

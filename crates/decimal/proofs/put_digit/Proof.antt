@@ -7,4 +7,4 @@ returns : tie.Need-returns
 returns c = byte
 
 pub put-digit-spec : {M : Type 1} → statement M
-put-digit-spec = tie.close (tie.spec cast-out add-out slice-write-out add-result same-length returns)
+put-digit-spec = tie.close (tie.spec (λ c. search needs) (λ c. search needs) (λ c. search needs) (λ c. search needs) (λ c. search needs) returns)

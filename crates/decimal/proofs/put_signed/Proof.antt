@@ -28,5 +28,5 @@ returns-2 c =
 pub put-signed-spec : {M : Type 1} → statement M
 put-signed-spec =
     tie.close
-    (tie.spec slice-aggregate-put-bytes put-bytes-requires magnitude-requires put-decimal-requires magnitude-requires-2 put-decimal-requires-2 same-length returns
-    same-length-2 returns-2)
+    (tie.spec (λ c. search needs) (λ c κs. search needs) (λ c κs. search needs) (λ c κs. search needs) (λ c κs. search needs) (λ c κs. search needs) (λ c. search needs) returns
+    (λ c. search needs) returns-2)

@@ -21,5 +21,5 @@ returns c =
 pub put-governing-spec : {M : Type 1} → statement M
 put-governing-spec =
     tie.close
-    (tie.spec put-signed-requires put-count-requires cast-put-count put-count-requires-2 flag-number-requires put-count-requires-3 put-count-requires-4 same-length
+    (tie.spec (λ c κs. search needs) (λ c κs. search needs) (λ c. search needs) (λ c κs. search needs) (λ c κs. search needs) (λ c κs. search needs) (λ c κs. search needs) (λ c. search needs)
     returns)

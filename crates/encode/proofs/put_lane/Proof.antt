@@ -11,4 +11,4 @@ returns c =
     and-then (and-then (natural (p1 .before .entry-number .ensures .0) (p1 .put-count .ensures)) (p2 .put-count2 .ensures)) (p3 .put-count3 .ensures)
 
 pub put-lane-spec : {M : Type 1} → statement M
-put-lane-spec = tie.close (tie.spec entry-number-requires put-count-requires put-count-requires-2 put-count-requires-3 same-length returns)
+put-lane-spec = tie.close (tie.spec (λ c κs. search needs) (λ c κs. search needs) (λ c κs. search needs) (λ c κs. search needs) (λ c. search needs) returns)

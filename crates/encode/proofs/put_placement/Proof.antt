@@ -11,4 +11,4 @@ returns c =
     and-then (and-then (p1 .put-count .ensures) (p2 .put-lanes .ensures)) (p3 .put-zeros .ensures)
 
 pub put-placement-spec : {M : Type 1} → statement M
-put-placement-spec = tie.close (tie.spec cast-put-count put-count-requires put-lanes-requires put-zeros-requires same-length returns)
+put-placement-spec = tie.close (tie.spec (λ c. search needs) (λ c κs. search needs) (λ c κs. search needs) (λ c κs. search needs) (λ c. search needs) returns)

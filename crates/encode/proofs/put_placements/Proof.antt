@@ -20,4 +20,4 @@ returns c =
     and-then (p1 .put-placement .ensures) (p2 .put-placement2 .ensures)
 
 pub put-placements-spec : {M : Type 1} → statement M
-put-placements-spec = tie.close (tie.spec put-placement-requires put-placement-requires-2 same-length returns)
+put-placements-spec = tie.close (tie.spec put-placement-requires put-placement-requires-2 (λ c. search needs) returns)

@@ -14,4 +14,4 @@ returns c =
     and-then (signed f (p1 .put-signed .ensures)) (natural (p2 .before .side-number .ensures .0) (p2 .put-count .ensures))
 
 pub put-position-spec : {M : Type 1} → statement M
-put-position-spec = tie.close (tie.spec put-signed-requires side-number-requires put-count-requires same-length returns)
+put-position-spec = tie.close (tie.spec (λ c κs. search needs) (λ c κs. search needs) (λ c κs. search needs) (λ c. search needs) returns)

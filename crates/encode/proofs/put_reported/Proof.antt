@@ -11,4 +11,4 @@ returns c =
     and-then (and-then (p1 .put-count .ensures) (p2 .put-governing .ensures)) (p3 .put-governing2 .ensures)
 
 pub put-reported-spec : {M : Type 1} → statement M
-put-reported-spec = tie.close (tie.spec put-count-requires put-governing-requires put-governing-requires-2 same-length returns)
+put-reported-spec = tie.close (tie.spec (λ c κs. search needs) (λ c κs. search needs) (λ c κs. search needs) (λ c. search needs) returns)

@@ -23,4 +23,4 @@ returns-2 c =
     retold (sym (ap limitNumbers (p .before .before .before .s .given .1))) (p .put-reported .ensures)
 
 pub put-state-spec : {M : Type 1} → statement M
-put-state-spec = tie.close (tie.spec enum-told put-zeros-requires enum-known-s put-reported-requires same-length returns same-length-2 returns-2)
+put-state-spec = tie.close (tie.spec (λ c. search needs) (λ c κs. search needs) (λ c. search needs) put-reported-requires (λ c. search needs) returns (λ c. search needs) returns-2)

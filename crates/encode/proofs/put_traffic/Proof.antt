@@ -13,4 +13,4 @@ returns c =
     and-then (and-then values (p3 .put-position .ensures)) (p4 .put-position2 .ensures)
 
 pub put-traffic-spec : {M : Type 1} → statement M
-put-traffic-spec = tie.close (tie.spec put-values-requires put-values-requires-2 put-position-requires put-position-requires-2 same-length returns)
+put-traffic-spec = tie.close (tie.spec (λ c κs. search needs) (λ c κs. search needs) (λ c κs. search needs) (λ c κs. search needs) (λ c. search needs) returns)

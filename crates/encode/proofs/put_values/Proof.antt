@@ -15,4 +15,4 @@ returns c =
     and-then (signed g (p1 .put-signed .ensures)) (signed l (p2 .put-signed2 .ensures))
 
 pub put-values-spec : {M : Type 1} → statement M
-put-values-spec = tie.close (tie.spec put-signed-requires put-signed-requires-2 same-length returns)
+put-values-spec = tie.close (tie.spec (λ c κs. search needs) (λ c κs. search needs) (λ c. search needs) returns)

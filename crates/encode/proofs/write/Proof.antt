@@ -40,4 +40,4 @@ returns c =
 pub write-spec : {M : Type 1} → statement M
 write-spec =
     tie.close
-    (tie.spec put-traffic-requires put-placements-requires put-placements-requires-2 put-states-requires put-counts-requires same-length returns)
+    (tie.spec (λ c κs. search needs) (λ c κs. search needs) (λ c κs. search needs) (λ c κs. search needs) put-counts-requires (λ c. search needs) returns)

@@ -17,5 +17,5 @@ returns c =
 pub put-account-spec : {M : Type 1} → statement M
 put-account-spec =
     tie.close
-    (tie.spec slice-aggregate-put-traffic put-traffic-requires slice-aggregate-put-traffic-2 put-traffic-requires-2 slice-aggregate-put-state put-state-requires
-    slice-aggregate-put-state-2 put-state-requires-2 same-length returns)
+    (tie.spec (λ c. search needs) (λ c κs. search needs) (λ c. search needs) (λ c κs. search needs) (λ c. search needs) (λ c κs. search needs)
+    (λ c. search needs) (λ c κs. search needs) (λ c. search needs) returns)

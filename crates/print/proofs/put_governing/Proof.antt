@@ -20,4 +20,4 @@ returns c =
     )
 
 pub put-governing-spec : {M : Type 1} → statement M
-put-governing-spec = tie.close (tie.spec put-value-requires slice-aggregate-put-number put-number-requires same-length returns)
+put-governing-spec = tie.close (tie.spec (λ c κs. search needs) (λ c. search needs) (λ c κs. search needs) (λ c. search needs) returns)

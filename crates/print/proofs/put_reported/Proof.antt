@@ -16,5 +16,5 @@ returns c =
 pub put-reported-spec : {M : Type 1} → statement M
 put-reported-spec =
     tie.close
-    (tie.spec slice-aggregate-put-governing put-governing-requires slice-aggregate-put-governing-2 put-governing-requires-2 slice-aggregate-put-bytes
-    put-bytes-requires same-length returns)
+    (tie.spec (λ c. search needs) (λ c κs. search needs) (λ c. search needs) (λ c κs. search needs) (λ c. search needs)
+    (λ c κs. search needs) (λ c. search needs) returns)

@@ -25,5 +25,5 @@ returns-2 c =
 pub put-state-spec : {M : Type 1} → statement M
 put-state-spec =
     tie.close
-    (tie.spec put-bytes-requires enum-told slice-aggregate-put-bytes put-bytes-requires-2 enum-known-s put-reported-requires same-length returns same-length-2
+    (tie.spec (λ c κs. search needs) (λ c. search needs) (λ c. search needs) (λ c κs. search needs) (λ c. search needs) (λ c κs. search needs) (λ c. search needs) returns (λ c. search needs)
     returns-2)

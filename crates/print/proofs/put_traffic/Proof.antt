@@ -26,5 +26,5 @@ returns c =
 pub put-traffic-spec : {M : Type 1} → statement M
 put-traffic-spec =
     tie.close
-    (tie.spec put-bytes-requires slice-aggregate-put-value put-value-requires slice-aggregate-put-value-2 put-value-requires-2 slice-aggregate-put-bytes
-    put-bytes-requires-2 same-length returns)
+    (tie.spec (λ c κs. search needs) (λ c. search needs) (λ c κs. search needs) (λ c. search needs) (λ c κs. search needs) (λ c. search needs)
+    (λ c κs. search needs) (λ c. search needs) returns)
