@@ -12,9 +12,8 @@ use mir.Facts.{toZ-ofZ, fits-ofZ}
 use Rattle.model.specs.declared.State.{State}
 use Rattle.model.specs.declared.State.the-variants.{Absent, Reported}
 use Rattle.model.specs.declared.Account.{Account}
-use Rattle.encode.specs.Encoding.{accountCount, accountSize, limitNumbers, countNumbers, accountNumbers, numberBytes, numbersBytes, accountBytes, numberOf, ReadBack, AllFit}
+use Rattle.encode.specs.Encoding.{accountCount, limitNumbers, countNumbers, accountNumbers, numberBytes, numbersBytes, accountBytes, numberOf, ReadBack, AllFit}
 use Rattle.buffer.proofs.Little.{little-read}
-use Rattle.encode.proofs.Stores.{bytes-length}
 
 pub limit-length : (s : State) → length (limitNumbers s) ≡ 11
 limit-length Absent = refl
@@ -27,9 +26,6 @@ account-count a =
     let b = length-append (limitNumbers (a .service) ++ limitNumbers (a .ultimate)) (countNumbers a) in
     let d = length-append (limitNumbers (a .service)) (limitNumbers (a .ultimate)) in
     omega arith
-
-pub account-length : (a : Account) → length (accountBytes a) ≡ accountSize
-account-length a = bytes-length (accountNumbers a) ∙ ap (λ (n : ℕ). 8 * n) (account-count a)
 
 -- number k's bytes start at byte 8 * k, whatever follows
 bytes-from : (zs : List ℤ) (rest : List ℕ) (k : ℕ) → k < length zs → drop (8 * k) (numbersBytes zs ++ rest) ≡ numberBytes (getD zs k (pos 0)) ++ (numbersBytes (drop (suc k) zs) ++ rest)

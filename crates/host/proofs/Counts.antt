@@ -1,7 +1,7 @@
 -- The counts of an answer's account are small: a centre lies on the carriageway, a row is one of the job's, and there are at most five lanes.
 use mathlib.Core.Path.{_≡_, refl, sym, ap, subst}
 use mathlib.Core.List.{List}
-use Prim.Native.Nat.{ℕ, zero, suc, _+_, _*_, _^_, _≤_, _<_}
+use Prim.Native.Nat.{ℕ, zero, suc, _*_, _^_, _≤_, _<_}
 use native.Mathlib.Nat.{mul-le-mul, le-of-mul-le-mul-left}
 use native.Mathlib.Omega.{arith}
 use lib.Dec.{ltb}
@@ -12,7 +12,7 @@ use Rattle.model.specs.Job.{Job, Limit, Live}
 use Rattle.model.specs.Decode.{decode}
 use Rattle.model.specs.Lanes.{CentreFits, lanes, unit, highestIn}
 use Rattle.model.specs.Line.{HN, HO}
-use Rattle.model.specs.Answered.{Answered, refused, accepted, refusalAnswer, zeroTraffic, laneAt, reported, reportedElement, reportedLoad, TrafficRight, StateRight}
+use Rattle.model.specs.Answered.{Answered, refused, accepted, zeroTraffic, laneAt, reported, reportedElement, reportedLoad, TrafficRight, StateRight}
 use Rattle.model.specs.declared.Answer.{Answer}
 use Rattle.model.specs.declared.Account.{Account}
 use Rattle.model.specs.declared.Entry.{Entry}

@@ -13,7 +13,6 @@ use Rattle.model.specs.Format.{headerOf, wordsDue}
 use Rattle.model.specs.Refusals.{Refusal, Test, _finds_, refuse, firstRefusal, jobTests, jobVerdict, fault1, fault2, fault3, fault6}
 use Rattle.model.specs.declared.Header.{Header}
 use Rattle.model.proofs.Verdict.{has-header, size-fits}
-use Rattle.job.specs.declared.refusals.Ruling.{Ruling}
 use Rattle.job.specs.Sized.{Counted, Sized}
 use Rattle.job.specs.Rulings.{Rules, testOf, Passed}
 use Rattle.job.proofs.Sizes.{counted}

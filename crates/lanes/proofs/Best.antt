@@ -3,7 +3,7 @@ use mathlib.Core.Path.{_≡_, refl, sym, _∙_, ap, ap₂, subst}
 use mathlib.Core.Logic.{inl, inr}
 use mathlib.Core.Bool.{Bool, true, false}
 use Prim.Native.Nat.{ℕ, suc, _+_, _-_, _*_, _^_, _≤_, _<_}
-use native.Mathlib.Nat.{lt-of-le-of-lt, le-refl}
+use native.Mathlib.Nat.{lt-of-le-of-lt}
 use native.Mathlib.Decide.{decLe}
 use native.Mathlib.Omega.{arith}
 use lib.IntN.{ℤ, pos, _+ℤ_, _*ℤ_}
@@ -14,11 +14,10 @@ use borrow.Author.Tests.{eq-eqb, ne-eqb}
 use Rattle.exact.specs.Bounds.{Within}
 use Rattle.exact.specs.Choice.{if_then_else_}
 use Rattle.exact.specs.Questions.{NoBetter, beats, extreme}
-use Rattle.exact.specs.Ranges.{sumTo, countTo}
 use Rattle.exact.specs.declared.Question.{Question}
 use Rattle.exact.proofs.Bounds.{within-le}
 use Rattle.exact.proofs.Bridge.{by-test}
-use Rattle.exact.proofs.Extremes.{no-better-refl, no-better-of-eq, no-better-trans, no-better-antisym, beats-yes, beats-no, extreme-bounds, extreme-least, extreme-cong}
+use Rattle.exact.proofs.Extremes.{no-better-refl, no-better-trans, no-better-antisym, beats-yes, beats-no, extreme-bounds, extreme-least, extreme-cong}
 use Rattle.exact.proofs.Ranges.{sum-cong, sum-zero, sum-one, count-cong}
 use Rattle.exact.proofs.Ring.{_⊕_, _⊗_, lit, _≐_, solve}
 use Rattle.exact.proofs.Weights.{count-false, count-le, count-with, sum-near}

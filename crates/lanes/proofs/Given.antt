@@ -1,7 +1,7 @@
 -- The elements that the code chose for a kind: their values, and in a job that each gives its lane's best.
 use mathlib.Core.Path.{_≡_, sym, _∙_, subst}
 use mathlib.Core.List.{List}
-use Prim.Native.Nat.{ℕ, _*_, _≤_, _<_, _^_}
+use Prim.Native.Nat.{ℕ, _*_, _≤_, _<_}
 use lib.Dec.{lit<}
 use lib.IntN.{ℤ}
 use lib.ListN.{getD}

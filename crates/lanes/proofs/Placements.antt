@@ -11,13 +11,13 @@ use lib.IntN.{ℤ}
 use lib.Dec.{ltb, eqb}
 use lib.ListN.{getD}
 use lib.Pow.{pow-mono}
-use borrow.Author.Tests.{ltb-true, ltb-false, eqb-true, eq-eqb, ne-eqb}
+use borrow.Author.Tests.{ltb-true, ltb-false, eqb-true, ne-eqb}
 use Rattle.exact.specs.Choice.{if_then_else_}
 use Rattle.exact.specs.declared.Question.{Question}
 use Rattle.exact.proofs.Bridge.{by-test}
 use Rattle.model.specs.Job.{Job, Live, noTraffic, normal, overload}
 use Rattle.model.specs.Line.{HN, HO}
-use Rattle.model.specs.Lanes.{bit, lanes, sumUnit, unit}
+use Rattle.model.specs.Lanes.{bit, lanes, unit}
 use Rattle.model.specs.Traffic.{laneEffect, bestSum, effectOf, trafficValue}
 use Rattle.model.specs.Arrangements.{OverloadLanes}
 use Rattle.model.specs.Answered.{entryBit, setOf, laneAt}

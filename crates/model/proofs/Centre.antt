@@ -2,7 +2,7 @@
 use mathlib.Core.Path.{_≡_, sym, _∙_, ap, ap₂, subst}
 use mathlib.Core.Logic.{inl, inr}
 use Prim.Native.Nat.{ℕ, zero, suc, _+_, _-_, _*_, _/_, _%_, _≤_, _<_}
-use native.Mathlib.Nat.{div-add-mod, mod-lt, mod-eq-of-lt, div-eq-of-lt, mul-add-div, mul-add-mod-self-left, add-zero, mul-pos, mul-assoc, mul-add, mul-left-comm, mul-le-mul-left, le-of-mul-le-mul-left, mul-suc, mul-sub, eq-or-lt-of-le, le-of-lt}
+use native.Mathlib.Nat.{div-add-mod, mod-lt, mod-eq-of-lt, div-eq-of-lt, mul-add-div, mul-add-mod-self-left, add-zero, mul-pos, mul-assoc, mul-add, mul-left-comm, mul-le-mul-left, le-of-mul-le-mul-left, mul-suc, eq-or-lt-of-le, le-of-lt}
 use native.Mathlib.Decide.{decLe}
 use native.Mathlib.Omega.{arith}
 use lib.IntN.{ℤ, pos, _+ℤ_, _-ℤ_, _*ℤ_}

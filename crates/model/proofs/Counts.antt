@@ -1,5 +1,5 @@
 -- A word within limits, as facts about numbers.
-use mathlib.Core.Path.{_≡_, refl, sym, _∙_, ap}
+use mathlib.Core.Path.{_≡_, refl}
 use mathlib.Core.Logic.{_⊎_, inl, inr}
 use mathlib.Core.Bool.{true, false≢true, and-eq-true-iff, _||_}
 use mathlib.Core.List.{List, [], _∷_}

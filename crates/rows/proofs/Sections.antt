@@ -5,7 +5,7 @@ use mathlib.Core.List.{List}
 use Prim.Native.Nat.{ℕ, _+_, _-_, _*_, _≤_}
 use native.Mathlib.Omega.{arith}
 use lib.ListN.{length}
-use Rattle.model.specs.Format.{headerOf, wordsDue, words, sectionOf}
+use Rattle.model.specs.Format.{headerOf, words, sectionOf}
 use Rattle.model.specs.Decode.{firstRecord}
 use Rattle.model.specs.Refusals.{jobVerdict, chainReturns, chainNamesTwice}
 use Rattle.model.specs.declared.Part.{Part}

@@ -67,17 +67,4 @@ returns-3 c =
 pub names-twice-spec : {M : Type 1} → statement M
 names-twice-spec =
     tie.close
-    (tie.spec
-    Inv-loop
-    μ-loop
-    loop-holds
-    returns
-    effect-requires
-    array-read-if2
-    returns-2
-    array-write-seen
-    next-requires
-    (λ c. omega arith)
-    (λ c. omega arith)
-    loop-again
-    returns-3)
+    (tie.spec Inv-loop μ-loop loop-holds returns effect-requires array-read-if2 returns-2 array-write-seen next-requires (λ c. omega arith) (λ c. omega arith) loop-again returns-3)

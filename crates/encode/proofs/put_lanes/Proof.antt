@@ -1,10 +1,9 @@
-use mathlib.Core.Path.{_≡_, refl, sym, ap, subst, _∙_}
-use Prim.Native.Nat.{ℕ, zero, suc, _+_, _*_, _-_, _^_, _≤_, _<_}
+use mathlib.Core.Path.{_≡_, refl, sym, ap}
+use Prim.Native.Nat.{ℕ, zero, suc, _*_, _-_, _≤_}
 use native.Mathlib.Omega.{arith}
 use native.Mathlib.Numerals.{add-one}
 use lib.ListN.{length, length-append}
 use borrow.Author.Needs.{needs}
-use Rattle.model.specs.declared.Lane.{Lane}
 use Rattle.model.specs.declared.Placement.{Placement}
 use Rattle.model.specs.Answered.{laneAt}
 use Rattle.encode.specs.Encoding.{laneNumbers, lanesNumbers, Written}

@@ -29,15 +29,4 @@ returns-2 c =
 pub hnho-solve-spec : {M : Type 1} → statement M
 hnho-solve-spec =
     tie.close
-    (tie.spec
-    (λ c κs. search needs)
-    (λ c. search needs)
-    returns
-    (λ c κs. search needs)
-    write-requires
-    (λ c. search needs)
-    mul-result
-    add-result
-    (λ c. search needs)
-    (λ c. search needs)
-    returns-2)
+    (tie.spec (λ c κs. search needs) (λ c. search needs) returns (λ c κs. search needs) write-requires (λ c. search needs) mul-result add-result (λ c. search needs) (λ c. search needs) returns-2)

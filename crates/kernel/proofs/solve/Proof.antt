@@ -97,15 +97,4 @@ returns-3 c =
 pub solve-spec : {M : Type 1} → statement M
 solve-spec =
     tie.close
-    (tie.spec
-    (λ c κs. search needs)
-    (λ c κs. search needs)
-    returns
-    read-requires
-    (λ c κs. search needs)
-    returns-2
-    account-requires
-    section-requires
-    mark-requires
-    (λ c. search needs)
-    returns-3)
+    (tie.spec (λ c κs. search needs) (λ c κs. search needs) returns read-requires (λ c κs. search needs) returns-2 account-requires section-requires mark-requires (λ c. search needs) returns-3)

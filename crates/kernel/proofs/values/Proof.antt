@@ -118,16 +118,4 @@ returns c =
 pub values-spec : {M : Type 1} → statement M
 values-spec =
     tie.close
-    (tie.spec
-    effect-requires
-    effect-requires-2
-    effect-requires-3
-    effect-requires-4
-    factor-requires
-    section-requires
-    across-of-requires
-    normal-requires
-    normal-requires-2
-    overload-requires
-    overload-requires-2
-    returns)
+    (tie.spec effect-requires effect-requires-2 effect-requires-3 effect-requires-4 factor-requires section-requires across-of-requires normal-requires normal-requires-2 overload-requires overload-requires-2 returns)

@@ -21,10 +21,4 @@ returns-2 c = rw (sym (c .before .in-range .ensures) ∙ c .if1 .left) refl
 pub pieces-fit-spec : {M : Type 1} → statement M
 pieces-fit-spec =
     tie.close
-    (tie.spec
-    (λ c κs. search needs)
-    (λ c κs. search needs)
-    (λ c κs. search needs)
-    mul-result
-    returns
-    returns-2)
+    (tie.spec (λ c κs. search needs) (λ c κs. search needs) (λ c κs. search needs) mul-result returns returns-2)

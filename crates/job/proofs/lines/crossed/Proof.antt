@@ -69,12 +69,4 @@ returns c =
 pub crossed-spec : {M : Type 1} → statement M
 crossed-spec =
     tie.close
-    (tie.spec
-    (λ c κs. search needs)
-    (λ c κs. search needs)
-    mul-result
-    (λ c κs. search needs)
-    (λ c κs. search needs)
-    mul-result-2
-    add-result
-    returns)
+    (tie.spec (λ c κs. search needs) (λ c κs. search needs) mul-result (λ c κs. search needs) (λ c κs. search needs) mul-result-2 add-result returns)

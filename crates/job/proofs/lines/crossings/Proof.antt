@@ -44,17 +44,4 @@ returns c = λ e i h. c .before .loop .inv .clear e i (omega arith)
 pub crossings-spec : {M : Type 1} → statement M
 crossings-spec =
     tie.close
-    (tie.spec
-    Inv-loop
-    μ-loop
-    loop-holds
-    (λ c. omega arith)
-    (λ c κs. omega arith)
-    (λ c. omega arith)
-    (λ c κs. omega arith)
-    crossed-requires
-    add-sum
-    (λ c. omega arith)
-    (λ c. omega arith)
-    loop-again
-    returns)
+    (tie.spec Inv-loop μ-loop loop-holds (λ c. omega arith) (λ c κs. omega arith) (λ c. omega arith) (λ c κs. omega arith) crossed-requires add-sum (λ c. omega arith) (λ c. omega arith) loop-again returns)

@@ -46,17 +46,4 @@ returns-2 c = sym (search-over (c .before .loop .inv) (omega arith))
 pub first-crossing-spec : {M : Type 1} → statement M
 first-crossing-spec =
     tie.close
-    (tie.spec
-    Inv-loop
-    μ-loop
-    loop-holds
-    (λ c. omega arith)
-    (λ c κs. omega arith)
-    (λ c. omega arith)
-    (λ c κs. omega arith)
-    (λ c κs. search needs)
-    returns
-    (λ c. omega arith)
-    (λ c. omega arith)
-    loop-again
-    returns-2)
+    (tie.spec Inv-loop μ-loop loop-holds (λ c. omega arith) (λ c κs. omega arith) (λ c. omega arith) (λ c κs. omega arith) (λ c κs. search needs) returns (λ c. omega arith) (λ c. omega arith) loop-again returns-2)

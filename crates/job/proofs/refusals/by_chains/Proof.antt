@@ -45,13 +45,4 @@ returns-3 c =
 pub by-chains-spec : {M : Type 1} → statement M
 by-chains-spec =
     tie.close
-    (tie.spec
-    defective-requires
-    (λ c. search needs)
-    defective-requires-2
-    (λ c. search needs)
-    returns
-    (λ c. search needs)
-    returns-2
-    (λ c. search needs)
-    returns-3)
+    (tie.spec defective-requires (λ c. search needs) defective-requires-2 (λ c. search needs) returns (λ c. search needs) returns-2 (λ c. search needs) returns-3)

@@ -47,14 +47,4 @@ returns-5 c = rw (last (c .before)) (c .table .ensures)
 pub found-spec : {M : Type 1} → statement M
 found-spec =
     tie.close
-    (tie.spec
-    limits-requires
-    count-requires
-    ordinates-requires
-    signs-requires
-    table-requires
-    returns
-    returns-2
-    returns-3
-    returns-4
-    returns-5)
+    (tie.spec limits-requires count-requires ordinates-requires signs-requires table-requires returns returns-2 returns-3 returns-4 returns-5)

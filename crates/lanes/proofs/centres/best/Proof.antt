@@ -101,19 +101,4 @@ returns c =
 pub best-spec : {M : Type 1} → statement M
 best-spec =
     tie.close
-    (tie.spec
-    Inv-loop
-    μ-loop
-    ordinate-requires
-    consider-requires
-    div-m
-    add-m
-    div-m-end
-    add-m-end
-    loop-holds
-    mul-consider
-    consider-requires-2
-    (λ c. omega arith)
-    (λ c. omega arith)
-    loop-again
-    returns)
+    (tie.spec Inv-loop μ-loop ordinate-requires consider-requires div-m add-m div-m-end add-m-end loop-holds mul-consider consider-requires-2 (λ c. omega arith) (λ c. omega arith) loop-again returns)

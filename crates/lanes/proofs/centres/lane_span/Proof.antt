@@ -53,16 +53,4 @@ returns c =
 pub lane-span-spec : {M : Type 1} → statement M
 lane-span-spec =
     tie.close
-    (tie.spec
-    mul-lo
-    mul-lo-2
-    add-lo
-    (λ c. search needs)
-    mul-hi
-    mul-hi-2
-    sub-hi
-    mul-best
-    best-requires
-    mul-best-2
-    best-requires-2
-    returns)
+    (tie.spec mul-lo mul-lo-2 add-lo (λ c. search needs) mul-hi mul-hi-2 sub-hi mul-best best-requires mul-best-2 best-requires-2 returns)

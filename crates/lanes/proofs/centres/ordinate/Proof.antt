@@ -69,16 +69,4 @@ returns c =
 pub ordinate-spec : {M : Type 1} → statement M
 ordinate-spec =
     tie.close
-    (tie.spec
-    (λ c. search needs)
-    (λ c. search needs)
-    sub-result
-    (λ c. search needs)
-    (λ c κs. search needs)
-    mul-result
-    cast-result-2
-    (λ c. search needs)
-    (λ c κs. search needs)
-    mul-result-2
-    add-result
-    returns)
+    (tie.spec (λ c. search needs) (λ c. search needs) sub-result (λ c. search needs) (λ c κs. search needs) mul-result cast-result-2 (λ c. search needs) (λ c κs. search needs) mul-result-2 add-result returns)

@@ -59,14 +59,4 @@ returns c = let l = c .before .loop in (l .inv .1, (λ k h. l .inv .2 k (omega a
 pub spans-spec : {M : Type 1} → statement M
 spans-spec =
     tie.close
-    (tie.spec
-    Inv-loop
-    μ-loop
-    loop-holds
-    lane-span-requires
-    mul-all
-    array-set-from-all
-    (λ c. omega arith)
-    (λ c. omega arith)
-    loop-again
-    returns)
+    (tie.spec Inv-loop μ-loop loop-holds lane-span-requires mul-all array-set-from-all (λ c. omega arith) (λ c. omega arith) loop-again returns)

@@ -45,17 +45,4 @@ returns-3 c = rw (c .before .before .on2 .given .1) (told (loosen (got w32 (c .o
 pub counted-spec : {M : Type 1} → statement M
 counted-spec =
     tie.close
-    (tie.spec
-    (λ c. search needs)
-    ordinate-requires
-    (λ c. search needs)
-    sub-ordinate
-    ordinate-requires-2
-    ordinate-requires-3
-    add-result
-    (λ c. search needs)
-    sub-ordinate-2
-    ordinate-requires-4
-    returns
-    returns-2
-    returns-3)
+    (tie.spec (λ c. search needs) ordinate-requires (λ c. search needs) sub-ordinate ordinate-requires-2 ordinate-requires-3 add-result (λ c. search needs) sub-ordinate-2 ordinate-requires-4 returns returns-2 returns-3)

@@ -61,14 +61,4 @@ returns c f count start =
 pub stretch-spec : {M : Type 1} → statement M
 stretch-spec =
     tie.close
-    (tie.spec
-    Inv-loop
-    μ-loop
-    loop-holds
-    counted-requires
-    add-ranked
-    ranked-requires
-    add-k
-    (λ c. omega arith)
-    loop-again
-    returns)
+    (tie.spec Inv-loop μ-loop loop-holds counted-requires add-ranked ranked-requires add-k (λ c. omega arith) loop-again returns)

@@ -65,16 +65,4 @@ returns c = told (loosen (times (length c .1) (cast (total c) w64 (wide c)) (ome
 pub double-area-spec : {M : Type 1} → statement M
 double-area-spec =
     tie.close
-    (tie.spec
-    Inv-loop
-    μ-loop
-    loop-holds
-    loaded-sum-requires
-    add-sum
-    (λ c. omega arith)
-    (λ c. omega arith)
-    loop-again
-    (λ c. search needs)
-    cast-result-2
-    mul-result
-    returns)
+    (tie.spec Inv-loop μ-loop loop-holds loaded-sum-requires add-sum (λ c. omega arith) (λ c. omega arith) loop-again (λ c. search needs) cast-result-2 mul-result returns)

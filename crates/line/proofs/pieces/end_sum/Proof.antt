@@ -34,11 +34,4 @@ returns c = told (plus (left c .1) (right c .1) (lit< tt))
 pub end-sum-spec : {M : Type 1} → statement M
 end-sum-spec =
     tie.close
-    (tie.spec
-    (λ c. search needs)
-    ordinate-requires
-    (λ c. search needs)
-    (λ c. search needs)
-    ordinate-requires-2
-    add-result
-    returns)
+    (tie.spec (λ c. search needs) ordinate-requires (λ c. search needs) (λ c. search needs) ordinate-requires-2 add-result returns)

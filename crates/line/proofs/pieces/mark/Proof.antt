@@ -52,14 +52,4 @@ returns c h =
 pub mark-spec : {M : Type 1} → statement M
 mark-spec =
     tie.close
-    (tie.spec
-    Inv-loop
-    μ-loop
-    loop-holds
-    patch-byte-requires
-    slice-write-patch
-    (λ c. omega arith)
-    (λ c. omega arith)
-    loop-again
-    same-length
-    returns)
+    (tie.spec Inv-loop μ-loop loop-holds patch-byte-requires slice-write-patch (λ c. omega arith) (λ c. omega arith) loop-again same-length returns)
