@@ -44,23 +44,26 @@ module _ (c : tie.After-across-of) where
   abbrev formed : tie.After-effect4
   formed = c .before .before .before
 
+  abbrev two : tie.After-effect2
+  two = formed .before .before
+
   abbrev st : tie.Start
-  st = formed .before .before .before .before .before
+  st = two .before .before .before
 
   abbrev job : Job
   job = decode (st .args .job .now)
 
   abbrev hn : Effects
-  hn = handed (formed .before .before .before .effect .result) (formed .before .before .effect2 .result)
+  hn = handed (two .before .effect .result) (two .effect2 .result)
 
   abbrev ho : Effects
   ho = handed (formed .before .effect3 .result) (formed .effect4 .result)
 
   hn-are : hn ≡ effectsOf job HN
-  hn-are = effects-are job HN (st .pre .1 .0) (st .pre .1 .1) (formed .before .before .before .effect .ensures) (formed .before .before .effect2 .ensures)
+  hn-are = effects-are job HN (st .pre .1 .0) (st .pre .1 .1) (two .before .effect .ensures) (two .effect2 .ensures)
 
   hn-fit : LineEffectsFit hnLineMost hn
-  hn-fit = effects-fit job HN (st .pre .1 .0) (st .pre .1 .1) (formed .before .before .before .effect .ensures) (formed .before .before .effect2 .ensures)
+  hn-fit = effects-fit job HN (st .pre .1 .0) (st .pre .1 .1) (two .before .effect .ensures) (two .effect2 .ensures)
 
   hn-wide : LineEffectsFit hoLineMost hn
   hn-wide = wider (lit≤ tt) hn-fit

@@ -88,19 +88,4 @@ returns-2 c =
 pub first-row-spec : {M : Type 1} → statement M
 first-row-spec =
     tie.close
-    (tie.spec
-    Inv-loop
-    μ-loop
-    section-requires
-    section-requires-2
-    loop-holds
-    (λ c. omega arith)
-    (λ c. omega arith)
-    count-requires
-    is-defective-requires
-    (λ c. omega arith)
-    returns
-    (λ c. omega arith)
-    (λ c. omega arith)
-    loop-again
-    returns-2)
+    (tie.spec Inv-loop μ-loop section-requires section-requires-2 loop-holds (λ c. omega arith) (λ c. omega arith) count-requires is-defective-requires (λ c. omega arith) returns (λ c. omega arith) (λ c. omega arith) loop-again returns-2)

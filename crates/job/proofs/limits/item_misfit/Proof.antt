@@ -66,22 +66,4 @@ returns-6 c = rw (c .before .enum-told6 .given .1) (c .record-misfit .ensures)
 pub item-misfit-spec : {M : Type 1} → statement M
 item-misfit-spec =
     tie.close
-    (tie.spec
-    (λ c. search needs)
-    header-misfit-requires
-    (λ c. search needs)
-    piece-misfit-requires
-    (λ c. search needs)
-    transverse-misfit-requires
-    (λ c. search needs)
-    effect-misfit-requires
-    (λ c. search needs)
-    row-misfit-requires
-    (λ c. search needs)
-    record-misfit-requires
-    returns
-    returns-2
-    returns-3
-    returns-4
-    returns-5
-    returns-6)
+    (tie.spec (λ c. search needs) header-misfit-requires (λ c. search needs) piece-misfit-requires (λ c. search needs) transverse-misfit-requires (λ c. search needs) effect-misfit-requires (λ c. search needs) row-misfit-requires (λ c. search needs) record-misfit-requires returns returns-2 returns-3 returns-4 returns-5 returns-6)

@@ -71,19 +71,4 @@ returns-2 c =
 pub misfit-spec : {M : Type 1} → statement M
 misfit-spec =
     tie.close
-    (tie.spec
-    Inv-loop
-    μ-loop
-    (λ c κs. search needs)
-    loop-holds
-    item-misfit-requires
-    (λ c. search needs)
-    (λ c κs. search needs)
-    mul-t10
-    add-t11
-    returns
-    (λ c. search needs)
-    (λ c. omega arith)
-    (λ c. omega arith)
-    loop-again
-    returns-2)
+    (tie.spec Inv-loop μ-loop (λ c κs. search needs) loop-holds item-misfit-requires (λ c. search needs) (λ c κs. search needs) mul-t10 add-t11 returns (λ c. search needs) (λ c. omega arith) (λ c. omega arith) loop-again returns-2)

@@ -45,21 +45,4 @@ returns-3 c = c .by-chains .ensures
 pub verdict-spec : {M : Type 1} → statement M
 verdict-spec =
     tie.close
-    (tie.spec
-    Inv-loop
-    μ-loop
-    (λ c κs. search needs)
-    (λ c. search needs)
-    returns
-    (λ c. search needs)
-    read-requires
-    loop-holds
-    found-requires
-    (λ c. search needs)
-    returns-2
-    (λ c. search needs)
-    (λ c. omega arith)
-    (λ c. omega arith)
-    loop-again
-    by-chains-requires
-    returns-3)
+    (tie.spec Inv-loop μ-loop (λ c κs. search needs) (λ c. search needs) returns (λ c. search needs) read-requires loop-holds found-requires (λ c. search needs) returns-2 (λ c. search needs) (λ c. omega arith) (λ c. omega arith) loop-again by-chains-requires returns-3)

@@ -60,17 +60,4 @@ returns c =
 pub best-overload-spec : {M : Type 1} → statement M
 best-overload-spec =
     tie.close
-    (tie.spec
-    Inv-loop
-    μ-loop
-    (λ c. search needs)
-    overload-at-requires
-    loop-holds
-    (λ c. omega arith)
-    (λ c. omega arith)
-    overload-at-requires-2
-    (λ c κs. search needs)
-    (λ c. omega arith)
-    (λ c. omega arith)
-    loop-again
-    returns)
+    (tie.spec Inv-loop μ-loop (λ c. search needs) overload-at-requires loop-holds (λ c. omega arith) (λ c. omega arith) overload-at-requires-2 (λ c κs. search needs) (λ c. omega arith) (λ c. omega arith) loop-again returns)

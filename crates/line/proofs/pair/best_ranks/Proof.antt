@@ -81,16 +81,4 @@ returns c =
 pub best-ranks-spec : {M : Type 1} → statement M
 best-ranks-spec =
     tie.close
-    (tie.spec
-    (λ c κs. search needs)
-    (λ c. search needs)
-    (λ c κs. search needs)
-    (λ c κs. search needs)
-    (λ c κs. search needs)
-    stretch-requires
-    stretch-requires-2
-    (λ c. search needs)
-    (λ c. search needs)
-    (λ c. search needs)
-    stretch-requires-3
-    returns)
+    (tie.spec (λ c κs. search needs) (λ c. search needs) (λ c κs. search needs) (λ c κs. search needs) (λ c κs. search needs) stretch-requires stretch-requires-2 (λ c. search needs) (λ c. search needs) (λ c. search needs) stretch-requires-3 returns)
