@@ -28,9 +28,6 @@ loop-again c =
     let e = drop-cons bytes (l .i) 0 (omega arith) ∙ ap (λ (k : ℕ). getD bytes (l .i) 0 ∷ drop k bytes) (sym (add-one (l .i))) in
     (omega arith, one-less e (omega arith) (l .inv .1))
 
-same-length : tie.Need-same-length Inv-loop μ-loop
-same-length c = c .before .loop .inv .1 .size
-
 returns : tie.Need-returns Inv-loop μ-loop
 returns c =
     let l = c .before .loop in
@@ -39,4 +36,4 @@ returns c =
 pub put-bytes-spec : {M : Type 1} → statement M
 put-bytes-spec =
     tie.close
-    (tie.spec Inv-loop μ-loop loop-holds (λ c. omega arith) (λ c. omega arith) slice-write-out (λ c. omega arith) (λ c. omega arith) loop-again (λ c. omega arith) same-length returns)
+    (tie.spec Inv-loop μ-loop loop-holds (λ c. omega arith) (λ c. omega arith) slice-write-out (λ c. omega arith) (λ c. omega arith) loop-again (λ c. omega arith) (λ c. c .before .loop .inv .1 .size) returns)

@@ -28,9 +28,6 @@ loop-again c =
     let e : n - l .i ≡ suc (n - (l .i + 1)) = omega arith in
     (omega arith, one-less (ap (λ (k : ℕ). replicate k 0) e) (omega arith) (l .inv .1))
 
-same-length : tie.Need-same-length Inv-loop μ-loop
-same-length c = c .before .loop .inv .1 .size
-
 returns : tie.Need-returns Inv-loop μ-loop
 returns c =
     let l = c .before .loop in
@@ -39,4 +36,4 @@ returns c =
     none-left (ap (λ (k : ℕ). replicate k 0) e) (omega arith) (l .inv .1)
 
 pub put-zeros-spec : {M : Type 1} → statement M
-put-zeros-spec = tie.close (tie.spec Inv-loop μ-loop loop-holds (λ c. omega arith) slice-write-out (λ c. omega arith) (λ c. omega arith) loop-again (λ c. omega arith) same-length returns)
+put-zeros-spec = tie.close (tie.spec Inv-loop μ-loop loop-holds (λ c. omega arith) slice-write-out (λ c. omega arith) (λ c. omega arith) loop-again (λ c. omega arith) (λ c. c .before .loop .inv .1 .size) returns)

@@ -33,16 +33,10 @@ module _ (c : tie.After-effect Inv-loop μ-loop) where
   few : c .effect .result ≤ 16
   few = rw (c .effect .ensures .0) (st .pre .1 (l .loop .at) (pos-of-ne-zero (c .before .if1 .left)) (l .loop .inv .2))
 
-array-read-if2 : tie.Need-array-read-if2 Inv-loop μ-loop
-array-read-if2 c = omega (arith, few c)
-
 returns-2 : tie.Need-returns-2 Inv-loop μ-loop
 returns-2 c =
     let d = c .before in
     sym (walked-twice (l d .loop .inv .1) (d .before .if1 .left) (d .effect .ensures .0) (few d) (l d .loop .inv .0) (c .if2 .taken))
-
-array-write-seen : tie.Need-array-write-seen Inv-loop μ-loop
-array-write-seen c = omega (arith, few (c .before))
 
 next-requires : tie.Need-next-requires Inv-loop μ-loop
 next-requires c κs =
@@ -67,4 +61,4 @@ returns-3 c =
 pub names-twice-spec : {M : Type 1} → statement M
 names-twice-spec =
     tie.close
-    (tie.spec Inv-loop μ-loop loop-holds returns effect-requires array-read-if2 returns-2 array-write-seen next-requires (λ c. omega arith) (λ c. omega arith) loop-again returns-3)
+    (tie.spec Inv-loop μ-loop loop-holds returns effect-requires (λ c. omega (arith, few c)) returns-2 (λ c. omega (arith, few (c .before))) next-requires (λ c. omega arith) (λ c. omega arith) loop-again returns-3)

@@ -15,14 +15,8 @@ at-below c = below _ (subst (SFits w64) (sym (toZ-ofZ (c .before .fits .v))) (c 
 at-above : (c : tie.Else1) → Above (toZ w64 (ofZ w64 (c .before .args .v)))
 at-above c = above _ (subst (SFits w64) (sym (toZ-ofZ (c .before .fits .v))) (c .before .fits .v)) (c .if1 .left)
 
-sub-m : tie.Need-sub-m
-sub-m c = at-below c .fits
-
 cast-m : tie.Need-cast-m
 cast-m c = let b = at-below c in (b .sign, record { fits = omega (arith, b .small) })
-
-add-result : tie.Need-add-result
-add-result c = omega (arith, at-below c .small)
 
 cast-result : tie.Need-cast-result
 cast-result c = let a = at-above c in (a .sign, record { fits = omega (arith, a .small) })
@@ -31,4 +25,4 @@ returns : tie.Need-returns
 returns c = at-below c .more ∙ ap natAbs (toZ-ofZ (c .before .fits .v))
 
 pub magnitude-spec : {M : Type 1} → statement M
-magnitude-spec = tie.close (tie.spec sub-m cast-m add-result cast-result returns (λ c. search needs))
+magnitude-spec = tie.close (tie.spec (λ c. at-below c .fits) cast-m (λ c. omega (arith, at-below c .small)) cast-result returns (λ c. search needs))

@@ -23,9 +23,6 @@ three-a-lane : (p : Placement) (n : ℕ) → length (lanesNumbers p n) ≡ 3 * n
 three-a-lane p zero = refl
 three-a-lane p (suc n) = let e = three-a-lane p n in let f = length-append (lanesNumbers p n) (laneNumbers (laneAt p n)) in omega arith
 
-loop-holds : tie.Need-loop-holds Inv-loop μ-loop
-loop-holds c = (omega arith, nothing _)
-
 put-lane-requires : tie.Need-put-lane-requires Inv-loop μ-loop
 put-lane-requires c κs =
     let l = c .before .before .before in
@@ -41,9 +38,6 @@ loop-again c =
     let s = p .before .before .before .before .before .before in
     (omega arith, retold (sym (ap (lanesNumbers (s .args .t3)) (add-one (l .i)))) (and-then (l .inv .1) (p .put-lane .ensures)))
 
-same-length : tie.Need-same-length Inv-loop μ-loop
-same-length c = kept (c .before .loop .inv .1 .bytes)
-
 returns : tie.Need-returns Inv-loop μ-loop
 returns c =
     let l = c .before .loop in
@@ -54,4 +48,4 @@ returns c =
 pub put-lanes-spec : {M : Type 1} → statement M
 put-lanes-spec =
     tie.close
-    (tie.spec Inv-loop μ-loop loop-holds (λ c. omega arith) (λ c. search needs) put-lane-requires (λ c. omega arith) (λ c. omega arith) loop-again same-length returns)
+    (tie.spec Inv-loop μ-loop (λ c. (omega arith, nothing _)) (λ c. omega arith) (λ c. search needs) put-lane-requires (λ c. omega arith) (λ c. omega arith) loop-again (λ c. kept (c .before .loop .inv .1 .bytes)) returns)

@@ -3,12 +3,6 @@ use Rattle.kernel.proofs.Fits.{sized, tables-found, state-found}
 use Rattle.kernel.proofs.limit_states.Statement.{statement}
 use Rattle.kernel.proofs.limit_states.Tie as tie
 
-section-requires : tie.Need-section-requires
-section-requires c κs = sized (c .before .pre .0)
-
-section-requires-2 : tie.Need-section-requires-2
-section-requires-2 c κs = sized (c .before .before .pre .0)
-
 section-requires-3 : tie.Need-section-requires-3
 section-requires-3 c κs = sized (c .before .before .before .pre .0)
 
@@ -27,4 +21,4 @@ returns c limit =
 
 pub limit-states-spec : {M : Type 1} → statement M
 limit-states-spec =
-    tie.close (tie.spec section-requires section-requires-2 section-requires-3 states-requires returns)
+    tie.close (tie.spec (λ c κs. sized (c .before .pre .0)) (λ c κs. sized (c .before .before .pre .0)) section-requires-3 states-requires returns)

@@ -75,9 +75,6 @@ answers {b} {before} {after} {line} {head} r l m a p v =
       patch = marked;
     })
 
-account-requires : tie.Need-account-requires
-account-requires c κs = ready (c .before .before)
-
 section-requires : tie.Need-section-requires
 section-requires c κs = sized (ready (c .before .before .before))
 
@@ -97,4 +94,4 @@ returns-3 c =
 pub solve-spec : {M : Type 1} → statement M
 solve-spec =
     tie.close
-    (tie.spec (λ c κs. search needs) (λ c κs. search needs) returns read-requires (λ c κs. search needs) returns-2 account-requires section-requires mark-requires (λ c. search needs) returns-3)
+    (tie.spec (λ c κs. search needs) (λ c κs. search needs) returns read-requires (λ c κs. search needs) returns-2 (λ c κs. ready (c .before .before)) section-requires mark-requires (λ c. search needs) returns-3)

@@ -10,9 +10,6 @@ use Rattle.kernel.proofs.Fits.{sized, line-fits, line-limits}
 use Rattle.kernel.proofs.sought.Statement.{statement}
 use Rattle.kernel.proofs.sought.Tie as tie
 
-section-requires : tie.Need-section-requires
-section-requires c κs = sized (c .before .pre)
-
 seek-requires : tie.Need-seek-requires
 seek-requires c κs =
     let s = c .before .before in
@@ -27,4 +24,4 @@ returns c =
     (subst (λ (h : Header). SensesRight (influenceLine (c .before .section .result .now) (h .h) (h .pieces)) (c .seek .result)) (s .pre .own) (c .seek .ensures))
 
 pub sought-spec : {M : Type 1} → statement M
-sought-spec = tie.close (tie.spec section-requires seek-requires returns)
+sought-spec = tie.close (tie.spec (λ c κs. sized (c .before .pre)) seek-requires returns)

@@ -17,12 +17,6 @@ use Rattle.kernel.proofs.Loads.{handed, effects-are, effects-fit, wider
 use Rattle.kernel.proofs.values.Statement.{statement}
 use Rattle.kernel.proofs.values.Tie as tie
 
-effect-requires : tie.Need-effect-requires
-effect-requires c κs = c .before .pre .1 .0 .near
-
-effect-requires-2 : tie.Need-effect-requires-2
-effect-requires-2 c κs = c .before .before .pre .1 .1 .near
-
 effect-requires-3 : tie.Need-effect-requires-3
 effect-requires-3 c κs = c .before .before .before .pre .1 .0 .near
 
@@ -86,9 +80,6 @@ module _ (c : tie.After-across-of) where
 normal-requires : tie.Need-normal-requires
 normal-requires c κs = (c .across-of .ensures .fits, limits c .0, limits c .1, hn-fit c)
 
-normal-requires-2 : tie.Need-normal-requires-2
-normal-requires-2 c κs = normal-requires (c .before) κs
-
 overload-requires : tie.Need-overload-requires
 overload-requires c κs = let d = c .before .before in (d .across-of .ensures .fits, limits d .0, limits d .1, hn-fit d, search (hn-wide d, ho-fit d))
 
@@ -121,4 +112,4 @@ returns c =
 pub values-spec : {M : Type 1} → statement M
 values-spec =
     tie.close
-    (tie.spec effect-requires effect-requires-2 effect-requires-3 effect-requires-4 factor-requires section-requires across-of-requires normal-requires normal-requires-2 overload-requires overload-requires-2 returns)
+    (tie.spec (λ c κs. c .before .pre .1 .0 .near) (λ c κs. c .before .before .pre .1 .1 .near) effect-requires-3 effect-requires-4 factor-requires section-requires across-of-requires normal-requires (λ c κs. normal-requires (c .before) κs) overload-requires overload-requires-2 returns)

@@ -9,15 +9,6 @@ Inv-loop fd left₀ left = Unit {0}
 abbrev μ-loop : tie.MeasureT-loop
 μ-loop fd left₀ left = left
 
-loop-holds : tie.Need-loop-holds Inv-loop μ-loop
-loop-holds c = tt
-
-one-requires : tie.Need-one-requires Inv-loop μ-loop
-one-requires c κs = tt
-
-loop-again : tie.Need-loop-again Inv-loop μ-loop
-loop-again c = tt
-
 returns : tie.Need-returns Inv-loop μ-loop
 returns c = tt
 
@@ -25,4 +16,4 @@ returns-2 : tie.Need-returns-2 Inv-loop μ-loop
 returns-2 c = tt
 
 pub all-spec : {M : Type 1} → statement M
-all-spec = tie.close (tie.spec Inv-loop μ-loop loop-holds one-requires (λ c. omega arith) (λ c. omega arith) loop-again returns returns-2)
+all-spec = tie.close (tie.spec Inv-loop μ-loop (λ c. tt) (λ c κs. tt) (λ c. omega arith) (λ c. omega arith) (λ c. tt) returns returns-2)

@@ -9,11 +9,8 @@ use Rattle.replay.proofs.weighed.Tie as tie
 small : (c : tie.After-wide) → c .before .args .number * c .wide .result ≤ 65535 * 255
 small c = mul-le-mul (c .before .pre) (c .wide .ensures)
 
-mul-result : tie.Need-mul-result
-mul-result c = record { fits = omega (arith, small c) }
-
 returns : tie.Need-returns
 returns c = small c
 
 pub weighed-spec : {M : Type 1} → statement M
-weighed-spec = tie.close (tie.spec (λ c κs. search needs) mul-result returns)
+weighed-spec = tie.close (tie.spec (λ c κs. search needs) (λ c. record { fits = omega (arith, small c) }) returns)

@@ -27,15 +27,6 @@ Inv-loop s head defect rows records i₀ i-end i = Searched (itemMisfit (rowTest
 abbrev μ-loop : tie.MeasureT-loop
 μ-loop s head defect rows records i₀ i-end i = i-end - i
 
-section-requires : tie.Need-section-requires Inv-loop μ-loop
-section-requires c κs = c .before .pre .0
-
-section-requires-2 : tie.Need-section-requires-2 Inv-loop μ-loop
-section-requires-2 c κs = c .before .before .pre .0
-
-loop-holds : tie.Need-loop-holds Inv-loop μ-loop
-loop-holds c = search-begins _ _
-
 module _ (c : tie.In-loop Inv-loop μ-loop) where
   abbrev st : tie.Start Inv-loop μ-loop
   st = c .before .before .before .before .before
@@ -88,4 +79,4 @@ returns-2 c =
 pub first-row-spec : {M : Type 1} → statement M
 first-row-spec =
     tie.close
-    (tie.spec Inv-loop μ-loop section-requires section-requires-2 loop-holds (λ c. omega arith) (λ c. omega arith) count-requires is-defective-requires (λ c. omega arith) returns (λ c. omega arith) (λ c. omega arith) loop-again returns-2)
+    (tie.spec Inv-loop μ-loop (λ c κs. c .before .pre .0) (λ c κs. c .before .before .pre .0) (λ c. search-begins _ _) (λ c. omega arith) (λ c. omega arith) count-requires is-defective-requires (λ c. omega arith) returns (λ c. omega arith) (λ c. omega arith) loop-again returns-2)

@@ -18,9 +18,6 @@ Inv-loop s head part i₀ i-end i = Searched (itemMisfit (format head part .fiel
 abbrev μ-loop : tie.MeasureT-loop
 μ-loop s head part i₀ i-end i = i-end - i
 
-loop-holds : tie.Need-loop-holds Inv-loop μ-loop
-loop-holds c = search-begins _ _
-
 item-misfit-requires : tie.Need-item-misfit-requires Inv-loop μ-loop
 item-misfit-requires c κs = (omega (arith, c .before .before .items .ensures .0), c .before .before .before .before .pre .1)
 
@@ -47,12 +44,6 @@ module _ (c : tie.After-item-words Inv-loop μ-loop) where
   small : place ≤ 42949672960
   small = few-words (st .args .head) (st .args .part) (st .pre .0) (below (format (st .args .head) (st .args .part)) _ place found)
 
-mul-t10 : tie.Need-mul-t10 Inv-loop μ-loop
-mul-t10 c = omega (arith, small c)
-
-add-t11 : tie.Need-add-t11 Inv-loop μ-loop
-add-t11 c = omega (arith, small c)
-
 returns : tie.Need-returns Inv-loop μ-loop
 returns c = sym (found c)
 
@@ -71,4 +62,4 @@ returns-2 c =
 pub misfit-spec : {M : Type 1} → statement M
 misfit-spec =
     tie.close
-    (tie.spec Inv-loop μ-loop (λ c κs. search needs) loop-holds item-misfit-requires (λ c. search needs) (λ c κs. search needs) mul-t10 add-t11 returns (λ c. search needs) (λ c. omega arith) (λ c. omega arith) loop-again returns-2)
+    (tie.spec Inv-loop μ-loop (λ c κs. search needs) (λ c. search-begins _ _) item-misfit-requires (λ c. search needs) (λ c κs. search needs) (λ c. omega (arith, small c)) (λ c. omega (arith, small c)) returns (λ c. search needs) (λ c. omega arith) (λ c. omega arith) loop-again returns-2)

@@ -50,12 +50,6 @@ up c =
     both (ltZ (st .args .left) (pos 0)) (ltZ (pos 0) (st .args .right))
     (c .before .below2 .ensures ∙ ap (λ (x : ℤ). flag (ltZ x (pos 0))) (left .is)) (c .above2 .ensures ∙ ap (λ (x : ℤ). flag (ltZ (pos 0) x)) (right .is))
 
-mul-result : tie.Need-mul-result
-mul-result c = omega (arith, down c .1)
-
-mul-result-2 : tie.Need-mul-result-2
-mul-result-2 c = omega (arith, up c .1)
-
 add-result : tie.Need-add-result
 add-result c = omega (arith, down (c .before .before) .1, up c .1)
 
@@ -69,4 +63,4 @@ returns c =
 pub crossed-spec : {M : Type 1} → statement M
 crossed-spec =
     tie.close
-    (tie.spec (λ c κs. search needs) (λ c κs. search needs) mul-result (λ c κs. search needs) (λ c κs. search needs) mul-result-2 add-result returns)
+    (tie.spec (λ c κs. search needs) (λ c κs. search needs) (λ c. omega (arith, down c .1)) (λ c κs. search needs) (λ c κs. search needs) (λ c. omega (arith, up c .1)) add-result returns)

@@ -18,12 +18,6 @@ Inv-loop s pieces sum₀ i₀ sum i = Tally (λ j. crosses (wordAt s (2 * j)) (w
 abbrev μ-loop : tie.MeasureT-loop
 μ-loop s pieces sum₀ i₀ sum i = pieces - i
 
-loop-holds : tie.Need-loop-holds Inv-loop μ-loop
-loop-holds c = tally-begins
-
-crossed-requires : tie.Need-crossed-requires Inv-loop μ-loop
-crossed-requires c κs = tt
-
 add-sum : tie.Need-add-sum Inv-loop μ-loop
 add-sum c = omega (arith, c .before .before .before .before .loop .inv .small, c .crossed .ensures .0)
 
@@ -44,4 +38,4 @@ returns c = λ e i h. c .before .loop .inv .clear e i (omega arith)
 pub crossings-spec : {M : Type 1} → statement M
 crossings-spec =
     tie.close
-    (tie.spec Inv-loop μ-loop loop-holds (λ c. omega arith) (λ c κs. omega arith) (λ c. omega arith) (λ c κs. omega arith) crossed-requires add-sum (λ c. omega arith) (λ c. omega arith) loop-again returns)
+    (tie.spec Inv-loop μ-loop (λ c. tally-begins) (λ c. omega arith) (λ c κs. omega arith) (λ c. omega arith) (λ c κs. omega arith) (λ c κs. tt) add-sum (λ c. omega arith) (λ c. omega arith) loop-again returns)

@@ -18,9 +18,6 @@ Inv-loop s pieces i₀ i = Searched (itemMisfit (signs pieces .fields) s) pieces
 abbrev μ-loop : tie.MeasureT-loop
 μ-loop s pieces i₀ i = pieces - i
 
-loop-holds : tie.Need-loop-holds Inv-loop μ-loop
-loop-holds c = search-begins _ _
-
 -- the piece's test
 tested : (c : tie.After-crosses Inv-loop μ-loop) →
     let s = c .before .before .before .before .before .before .args .s .now in
@@ -46,4 +43,4 @@ returns-2 c = sym (search-over (c .before .loop .inv) (omega arith))
 pub first-crossing-spec : {M : Type 1} → statement M
 first-crossing-spec =
     tie.close
-    (tie.spec Inv-loop μ-loop loop-holds (λ c. omega arith) (λ c κs. omega arith) (λ c. omega arith) (λ c κs. omega arith) (λ c κs. search needs) returns (λ c. omega arith) (λ c. omega arith) loop-again returns-2)
+    (tie.spec Inv-loop μ-loop (λ c. search-begins _ _) (λ c. omega arith) (λ c κs. omega arith) (λ c. omega arith) (λ c κs. omega arith) (λ c κs. search needs) returns (λ c. omega arith) (λ c. omega arith) loop-again returns-2)

@@ -18,9 +18,6 @@ Inv-loop s m sum₀ k₀ k-end sum k = Tally (λ j. between (negℤ (toZ w32 m))
 abbrev μ-loop : tie.MeasureT-loop
 μ-loop s m sum₀ k₀ k-end sum k = k-end - k
 
-loop-holds : tie.Need-loop-holds Inv-loop μ-loop
-loop-holds c = tally-begins
-
 outside-requires : tie.Need-outside-requires Inv-loop μ-loop
 outside-requires c κs = let st = c .before .before .before .before in told (arg (st .fits .m) (st .pre .1)) .1
 
@@ -42,4 +39,4 @@ returns c =
 pub strays-spec : {M : Type 1} → statement M
 strays-spec =
     tie.close
-    (tie.spec Inv-loop μ-loop loop-holds (λ c κs. omega arith) outside-requires add-sum (λ c. omega arith) (λ c. omega arith) loop-again returns)
+    (tie.spec Inv-loop μ-loop (λ c. tally-begins) (λ c κs. omega arith) outside-requires add-sum (λ c. omega arith) (λ c. omega arith) loop-again returns)

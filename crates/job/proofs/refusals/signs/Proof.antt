@@ -12,9 +12,6 @@ use Rattle.job.proofs.Sizes.{counts, part-length, few-words}
 use Rattle.job.proofs.refusals.signs.Statement.{statement}
 use Rattle.job.proofs.refusals.signs.Tie as tie
 
-section-requires : tie.Need-section-requires
-section-requires c κs = c .before .pre
-
 crossing-requires : tie.Need-crossing-requires
 crossing-requires c κs =
     let st = c .before .before in
@@ -34,4 +31,4 @@ returns c =
     ∙ ap (λ (h : Header). moved (start h Line) (misfit (signs (h .pieces)) (sectionOf (st .args .s .now) Line))) (st .pre .own)
 
 pub signs-spec : {M : Type 1} → statement M
-signs-spec = tie.close (tie.spec section-requires crossing-requires in-job-requires returns)
+signs-spec = tie.close (tie.spec (λ c κs. c .before .pre) crossing-requires in-job-requires returns)

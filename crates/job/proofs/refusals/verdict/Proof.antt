@@ -24,9 +24,6 @@ read-requires c κs = has-header _ (sym (c .before .before .frame .ensures) ∙ 
 loop-holds : tie.Need-loop-holds Inv-loop μ-loop
 loop-holds c = (begins (c .read .ensures) (sym (c .before .before .before .frame .ensures) ∙ ap placeOf (c .before .enum-told .given .1)), omega arith)
 
-found-requires : tie.Need-found-requires Inv-loop μ-loop
-found-requires c κs = (c .before .loop .inv .0, omega arith)
-
 returns-2 : tie.Need-returns-2 Inv-loop μ-loop
 returns-2 c =
     let k = c .before .before .before in
@@ -45,4 +42,4 @@ returns-3 c = c .by-chains .ensures
 pub verdict-spec : {M : Type 1} → statement M
 verdict-spec =
     tie.close
-    (tie.spec Inv-loop μ-loop (λ c κs. search needs) (λ c. search needs) returns (λ c. search needs) read-requires loop-holds found-requires (λ c. search needs) returns-2 (λ c. search needs) (λ c. omega arith) (λ c. omega arith) loop-again by-chains-requires returns-3)
+    (tie.spec Inv-loop μ-loop (λ c κs. search needs) (λ c. search needs) returns (λ c. search needs) read-requires loop-holds (λ c κs. (c .before .loop .inv .0, omega arith)) (λ c. search needs) returns-2 (λ c. search needs) (λ c. omega arith) (λ c. omega arith) loop-again by-chains-requires returns-3)

@@ -6,12 +6,6 @@ use Rattle.job.proofs.Sizes.{cut, counts, own-section, part-in}
 use Rattle.job.proofs.sections.section.Statement.{statement}
 use Rattle.job.proofs.sections.section.Tie as tie
 
-start-requires : tie.Need-start-requires
-start-requires c κs = counts (c .before .pre)
-
-words-requires : tie.Need-words-requires
-words-requires c κs = counts (c .before .before .pre)
-
 part-result-end : tie.Need-part-result-end
 part-result-end c =
     let st = c .before .before .before in
@@ -26,4 +20,4 @@ returns c =
 pub section-spec : {M : Type 1} → statement M
 section-spec =
     tie.close
-    (tie.spec start-requires (λ c. search needs) words-requires (λ c. search needs) (λ c. search needs) (λ c. search needs) (λ c. search needs) part-result-end returns)
+    (tie.spec (λ c κs. counts (c .before .pre)) (λ c. search needs) (λ c κs. counts (c .before .before .pre)) (λ c. search needs) (λ c. search needs) (λ c. search needs) (λ c. search needs) part-result-end returns)

@@ -26,18 +26,12 @@ ordinate-requires c κs =
 consider-requires : tie.Need-consider-requires Inv-loop μ-loop
 consider-requires c κs = let s = c .before .before in (s .pre .0, (s .pre .1 .0, s .pre .1 .1 .1))
 
-div-m : tie.Need-div-m Inv-loop μ-loop
-div-m c = c .before .before .before .pre .0
-
 -- both numbers of ordinates are far below the section's length
 numbers : (s : tie.Start Inv-loop μ-loop) → let a = s .args in (a .lo / a .d ≤ a .hi / a .d) × (4 * (a .hi / a .d + 2) ≤ length (a .across .now))
 numbers s = (div-mono (s .pre .0) (s .pre .1 .1 .0), omega (arith, s .pre .1 .1 .1 .room))
 
 add-m : tie.Need-add-m Inv-loop μ-loop
 add-m c = omega (arith, numbers (c .before .before .before))
-
-div-m-end : tie.Need-div-m-end Inv-loop μ-loop
-div-m-end c = c .before .before .before .pre .0
 
 add-m-end : tie.Need-add-m-end Inv-loop μ-loop
 add-m-end c = omega (arith, numbers (c .before .before .before))
@@ -71,9 +65,6 @@ has-ordinates c =
     let s = c .before .before .before .before .before in
     ordinates-left (s .args .across .now) (s .args .d) (c .before .loop .m * s .args .d) (s .args .hi) (s .pre .0) (inside c .1) (s .pre .1 .1 .1)
 
-mul-consider : tie.Need-mul-consider Inv-loop μ-loop
-mul-consider c = let h = inside c in omega arith
-
 consider-requires-2 : tie.Need-consider-requires-2 Inv-loop μ-loop
 consider-requires-2 c κs = let s = c .before .before .before .before .before in (s .pre .0, (s .pre .1 .0, has-ordinates c))
 
@@ -101,4 +92,4 @@ returns c =
 pub best-spec : {M : Type 1} → statement M
 best-spec =
     tie.close
-    (tie.spec Inv-loop μ-loop ordinate-requires consider-requires div-m add-m div-m-end add-m-end loop-holds mul-consider consider-requires-2 (λ c. omega arith) (λ c. omega arith) loop-again returns)
+    (tie.spec Inv-loop μ-loop ordinate-requires consider-requires (λ c. c .before .before .before .pre .0) add-m (λ c. c .before .before .before .pre .0) add-m-end loop-holds (λ c. let h = inside c in omega arith) consider-requires-2 (λ c. omega arith) (λ c. omega arith) loop-again returns)

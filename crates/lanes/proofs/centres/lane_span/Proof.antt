@@ -10,27 +10,6 @@ use Rattle.lanes.proofs.centres.lane_span.Tie as tie
 bounds : (s : tie.Start) → let a = s .args in Limits (a .across .now) (a .width) (a .n) (a .g) (a .i)
 bounds s = let a = s .args in limits (a .across .now) (a .width) (a .n) (a .g) (a .i) (s .pre .0) (s .pre .1 .0) (s .pre .1 .1)
 
-mul-lo : tie.Need-mul-lo
-mul-lo c = omega (arith, bounds (c .before))
-
-mul-lo-2 : tie.Need-mul-lo-2
-mul-lo-2 c = omega (arith, bounds (c .before))
-
-add-lo : tie.Need-add-lo
-add-lo c = omega (arith, bounds (c .before))
-
-mul-hi : tie.Need-mul-hi
-mul-hi c = omega (arith, bounds (c .before))
-
-mul-hi-2 : tie.Need-mul-hi-2
-mul-hi-2 c = omega (arith, bounds (c .before))
-
-sub-hi : tie.Need-sub-hi
-sub-hi c = bounds (c .before) .inside
-
-mul-best : tie.Need-mul-best
-mul-best c = omega (arith, bounds (c .before))
-
 best-requires : tie.Need-best-requires
 best-requires c κs = let b = bounds (c .before) in (b .apart, (b .close, (omega (arith, b .order), b .ordinates)))
 
@@ -53,4 +32,4 @@ returns c =
 pub lane-span-spec : {M : Type 1} → statement M
 lane-span-spec =
     tie.close
-    (tie.spec mul-lo mul-lo-2 add-lo (λ c. search needs) mul-hi mul-hi-2 sub-hi mul-best best-requires mul-best-2 best-requires-2 returns)
+    (tie.spec (λ c. omega (arith, bounds (c .before))) (λ c. omega (arith, bounds (c .before))) (λ c. omega (arith, bounds (c .before))) (λ c. search needs) (λ c. omega (arith, bounds (c .before))) (λ c. omega (arith, bounds (c .before))) (λ c. bounds (c .before) .inside) (λ c. omega (arith, bounds (c .before))) best-requires mul-best-2 best-requires-2 returns)

@@ -40,9 +40,6 @@ from-right c =
     let h = small s in
     (_, times (j s .1) (ret w64 (c .word2 .ok) (c .word2 .ensures .0) (right s)) (omega arith))
 
-sub-result : tie.Need-sub-result
-sub-result c = le-of-lt (small (c .before))
-
 mul-result : tie.Need-mul-result
 mul-result c = let s = c .before .before in times! (d-j s .1) (ret w64 (c .word .ok) (c .word .ensures .0) (left s)) (omega arith)
 
@@ -69,4 +66,4 @@ returns c =
 pub ordinate-spec : {M : Type 1} → statement M
 ordinate-spec =
     tie.close
-    (tie.spec (λ c. search needs) (λ c. search needs) sub-result (λ c. search needs) (λ c κs. search needs) mul-result cast-result-2 (λ c. search needs) (λ c κs. search needs) mul-result-2 add-result returns)
+    (tie.spec (λ c. search needs) (λ c. search needs) (λ c. le-of-lt (small (c .before))) (λ c. search needs) (λ c κs. search needs) mul-result cast-result-2 (λ c. search needs) (λ c κs. search needs) mul-result-2 add-result returns)

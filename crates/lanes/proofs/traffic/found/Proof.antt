@@ -11,12 +11,6 @@ use Rattle.lanes.proofs.Placements.{traffic-placed}
 use Rattle.lanes.proofs.traffic.found.Statement.{statement}
 use Rattle.lanes.proofs.traffic.found.Tie as tie
 
-placed-requires : tie.Need-placed-requires
-placed-requires c κs = (c .pre .0 .some, c .pre .0 .few)
-
-loaded-requires : tie.Need-loaded-requires
-loaded-requires c κs = c .before .pre .3
-
 value-requires : tie.Need-value-requires
 value-requires c κs = let s = c .before .before .before in (s .pre .1, s .pre .2, s .pre .0 .apart, s .pre .0 .close, told (known w64 (s .pre .4) (lit< tt)) .1)
 
@@ -31,4 +25,4 @@ returns c =
     )
 
 pub found-spec : {M : Type 1} → statement M
-found-spec = tie.close (tie.spec placed-requires loaded-requires value-requires returns)
+found-spec = tie.close (tie.spec (λ c κs. (c .pre .0 .some, c .pre .0 .few)) (λ c κs. c .before .pre .3) value-requires returns)

@@ -15,9 +15,6 @@ Inv-loop set ho n hn over lanes₀ i₀ lanes i = (i ≤ n) × FilledTo (λ k x.
 abbrev μ-loop : tie.MeasureT-loop
 μ-loop set ho n hn over lanes₀ i₀ lanes i = n - i
 
-loop-holds : tie.Need-loop-holds Inv-loop μ-loop
-loop-holds c = (omega arith, filled-none _ 5 emptyLane)
-
 loop-again : tie.Need-loop-again Inv-loop μ-loop
 loop-again c = (omega arith, filled-more (c .lane .result) (omega arith) (c .before .before .before .before .loop .inv .1) (c .lane .ensures))
 
@@ -29,4 +26,4 @@ returns c =
 pub placed-spec : {M : Type 1} → statement M
 placed-spec =
     tie.close
-    (tie.spec Inv-loop μ-loop loop-holds (λ c. omega arith) (λ c. omega arith) (λ c. omega arith) (λ c. omega arith) (λ c κs. omega arith) (λ c. omega arith) (λ c. omega arith) (λ c. omega arith) (λ c. omega arith) loop-again returns)
+    (tie.spec Inv-loop μ-loop (λ c. (omega arith, filled-none _ 5 emptyLane)) (λ c. omega arith) (λ c. omega arith) (λ c. omega arith) (λ c. omega arith) (λ c κs. omega arith) (λ c. omega arith) (λ c. omega arith) (λ c. omega arith) (λ c. omega arith) loop-again returns)

@@ -27,12 +27,6 @@ module _ (c : tie.After-rank) where
   so-far : Held w32 (ofZ w32 (st .args .best)) (2 ^ 31) (st .args .best)
   so-far = any (st .fits .best)
 
-cast-beats : tie.Need-cast-beats
-cast-beats c = cast! (next c) w64 (lit< tt)
-
-cast-beats-2 : tie.Need-cast-beats-2
-cast-beats-2 c = cast! (so-far c) w64 (lit< tt)
-
 -- the test's answer is that of the two ranks
 tested : (c : tie.After-beats) {t : Bool} → c .beats .result ≡ t → beats (st (c .before) .args .q) (new (c .before)) (st (c .before) .args .best) ≡ t
 tested c e = let d = c .before in beats-held (cast (next d) w64 (lit< tt)) (cast (so-far d) w64 (lit< tt)) (st d .args .q) (c .beats .ensures) e
@@ -45,4 +39,4 @@ returns-2 c = let d = c .before .before in so-far d .is ∙ sym (beats-no (st d 
 
 pub improved-spec : {M : Type 1} → statement M
 improved-spec =
-    tie.close (tie.spec (λ c κs. search needs) cast-beats cast-beats-2 (λ c κs. search needs) returns returns-2)
+    tie.close (tie.spec (λ c κs. search needs) (λ c. cast! (next c) w64 (lit< tt)) (λ c. cast! (so-far c) w64 (lit< tt)) (λ c κs. search needs) returns returns-2)

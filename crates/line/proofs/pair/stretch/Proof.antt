@@ -34,15 +34,6 @@ module _ (c : tie.After-counted Inv-loop μ-loop) where
   abbrev ordinates : Kept w32 10000 (countOf (st .args .line .now) (st .args .on) k)
   ordinates = (_, got w32 (c .counted .ok) (c .counted .ensures))
 
-add-ranked : tie.Need-add-ranked Inv-loop μ-loop
-add-ranked c = omega (arith, late c)
-
-ranked-requires : tie.Need-ranked-requires Inv-loop μ-loop
-ranked-requires c κs = (told (ordinates c .1) .1, late c)
-
-add-k : tie.Need-add-k Inv-loop μ-loop
-add-k c = omega (arith, late (c .before))
-
 loop-again : tie.Need-loop-again Inv-loop μ-loop
 loop-again c =
     let d = c .before in
@@ -61,4 +52,4 @@ returns c f count start =
 pub stretch-spec : {M : Type 1} → statement M
 stretch-spec =
     tie.close
-    (tie.spec Inv-loop μ-loop loop-holds counted-requires add-ranked ranked-requires add-k (λ c. omega arith) loop-again returns)
+    (tie.spec Inv-loop μ-loop loop-holds counted-requires (λ c. omega (arith, late c)) (λ c κs. (told (ordinates c .1) .1, late c)) (λ c. omega (arith, late (c .before))) (λ c. omega arith) loop-again returns)

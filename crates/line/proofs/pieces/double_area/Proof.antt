@@ -19,9 +19,6 @@ Inv-loop line h n sense sum₀ i₀ sum i = (i ≤ n) × Held w32 sum (10000 * i
 abbrev μ-loop : tie.MeasureT-loop
 μ-loop line h n sense sum₀ i₀ sum i = n - i
 
-loop-holds : tie.Need-loop-holds Inv-loop μ-loop
-loop-holds c = (omega arith, lit w32 0 (omega arith))
-
 loaded-sum-requires : tie.Need-loaded-sum-requires Inv-loop μ-loop
 loaded-sum-requires c κs = fits-piece (c .before .before .before .pre .0) (c .before .loop .i) (omega arith)
 
@@ -52,9 +49,6 @@ module _ (c : tie.After-loop Inv-loop μ-loop) where
   room : st .args .h * (10000 * st .args .n) ≤ 10000000
   room = area-room (st .args .h) (st .args .n) (st .pre .1 .1)
 
-cast-result-2 : tie.Need-cast-result-2 Inv-loop μ-loop
-cast-result-2 c = cast! (total c) w64 (wide c)
-
 mul-result : tie.Need-mul-result Inv-loop μ-loop
 mul-result c = times! (length c .1) (cast (total c) w64 (wide c)) (omega (arith, room c))
 
@@ -65,4 +59,4 @@ returns c = told (loosen (times (length c .1) (cast (total c) w64 (wide c)) (ome
 pub double-area-spec : {M : Type 1} → statement M
 double-area-spec =
     tie.close
-    (tie.spec Inv-loop μ-loop loop-holds loaded-sum-requires add-sum (λ c. omega arith) (λ c. omega arith) loop-again (λ c. search needs) cast-result-2 mul-result returns)
+    (tie.spec Inv-loop μ-loop (λ c. (omega arith, lit w32 0 (omega arith))) loaded-sum-requires add-sum (λ c. omega arith) (λ c. omega arith) loop-again (λ c. search needs) (λ c. cast! (total c) w64 (wide c)) mul-result returns)

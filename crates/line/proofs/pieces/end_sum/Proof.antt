@@ -25,13 +25,10 @@ module _ (c : tie.After-ordinate2) where
   abbrev right : Kept w32 5000 (wordAt (st .args .line .now) (2 * st .args .i + 1))
   right = (_, got w32 (c .ordinate2 .ok) (c .ordinate2 .ensures))
 
-add-result : tie.Need-add-result
-add-result c = plus! (left c .1) (right c .1) (lit< tt)
-
 returns : tie.Need-returns
 returns c = told (plus (left c .1) (right c .1) (lit< tt))
 
 pub end-sum-spec : {M : Type 1} → statement M
 end-sum-spec =
     tie.close
-    (tie.spec (λ c. search needs) ordinate-requires (λ c. search needs) (λ c. search needs) ordinate-requires-2 add-result returns)
+    (tie.spec (λ c. search needs) ordinate-requires (λ c. search needs) (λ c. search needs) ordinate-requires-2 (λ c. plus! (left c .1) (right c .1) (lit< tt)) returns)

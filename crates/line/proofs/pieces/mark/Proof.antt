@@ -16,9 +16,6 @@ Inv-loop line n patch₀ i₀ patch i = (i ≤ n) × (patch ≡ marked (λ j. pa
 abbrev μ-loop : tie.MeasureT-loop
 μ-loop line n patch₀ i₀ patch i = n - i
 
-loop-holds : tie.Need-loop-holds Inv-loop μ-loop
-loop-holds c = (omega arith, refl)
-
 patch-byte-requires : tie.Need-patch-byte-requires Inv-loop μ-loop
 patch-byte-requires c κs = fits-piece (c .before .before .before .before .pre .0) _ (omega arith)
 
@@ -52,4 +49,4 @@ returns c h =
 pub mark-spec : {M : Type 1} → statement M
 mark-spec =
     tie.close
-    (tie.spec Inv-loop μ-loop loop-holds patch-byte-requires slice-write-patch (λ c. omega arith) (λ c. omega arith) loop-again same-length returns)
+    (tie.spec Inv-loop μ-loop (λ c. (omega arith, refl)) patch-byte-requires slice-write-patch (λ c. omega arith) (λ c. omega arith) loop-again same-length returns)

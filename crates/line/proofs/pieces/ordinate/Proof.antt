@@ -9,11 +9,8 @@ use Rattle.line.proofs.pieces.ordinate.Tie as tie
 abbrev read : (c : tie.After-word) → Kept w64 5000 (wordAt (c .before .before .args .line .now) (c .before .before .args .k))
 read c = (_, ret w64 (c .word .ok) (c .word .ensures .0) (c .before .before .pre .near))
 
-cast-result : tie.Need-cast-result
-cast-result c = cast! (read c .1) w32 (lit< tt)
-
 returns : tie.Need-returns
 returns c = told (cast (read c .1) w32 (lit< tt))
 
 pub ordinate-spec : {M : Type 1} → statement M
-ordinate-spec = tie.close (tie.spec (λ c κs. search needs) cast-result returns)
+ordinate-spec = tie.close (tie.spec (λ c κs. search needs) (λ c. cast! (read c .1) w32 (lit< tt)) returns)

@@ -41,9 +41,6 @@ module _ (c : tie.After-effect-value) where
   value : Held w64 (ofZ w64 (c .effect-value .result)) effectMost (effectAt (s b .args .effects .now) (recordEffect (s b .args .records .now) (s b .args .c)) .value)
   value = retold (got w64 (c .effect-value .ok) (c .effect-value .ensures)) (ap (λ (k : ℕ). effectAt (s b .args .effects .now) k .value) (e b))
 
-mul-t8 : tie.Need-mul-t8
-mul-t8 c = times! (factor c) (value c) (lit< tt)
-
 optional-requires : tie.Need-optional-requires
 optional-requires c κs = (rw (e (b c)) (fits (b c) .effect), rw (e (b c)) (fits (b c) .there))
 
@@ -64,4 +61,4 @@ returns c =
     })
 
 pub share-of-spec : {M : Type 1} → statement M
-share-of-spec = tie.close (tie.spec (λ c κs. search needs) (λ c κs. search needs) (λ c. search needs) effect-value-requires mul-t8 optional-requires bit-of-requires returns)
+share-of-spec = tie.close (tie.spec (λ c κs. search needs) (λ c κs. search needs) (λ c. search needs) effect-value-requires (λ c. times! (factor c) (value c) (lit< tt)) optional-requires bit-of-requires returns)

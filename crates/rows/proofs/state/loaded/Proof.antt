@@ -27,11 +27,8 @@ module _ (c : tie.After-traffic) where
   value : Held w64 (ofZ w64 (c .traffic .result)) trafficMost (liveValue (s .args .live) (liveOf (countAt (s .args .rows .now) (4 * (s .args .r - 1) + 1))))
   value = retold (got w64 (c .traffic .ok) (c .traffic .ensures)) (ap (λ (k : ℕ). liveValue (s .args .live) (liveOf k)) (c .before .before .word .ensures .0))
 
-mul-result : tie.Need-mul-result
-mul-result c = times! (factor c) (value c) (lit< tt)
-
 returns : tie.Need-returns
 returns c = let v = times (factor c) (value c) (lit< tt) in rw (v .is) (refl, v .near)
 
 pub loaded-spec : {M : Type 1} → statement M
-loaded-spec = tie.close (tie.spec (λ c κs. search needs) (λ c κs. search needs) (λ c. search needs) (λ c κs. search needs) mul-result returns)
+loaded-spec = tie.close (tie.spec (λ c κs. search needs) (λ c κs. search needs) (λ c. search needs) (λ c κs. search needs) (λ c. times! (factor c) (value c) (lit< tt)) returns)
