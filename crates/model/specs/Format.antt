@@ -17,7 +17,7 @@ use Rattle.model.specs.declared.Part.the-variants.{Head, Line, Transvers
 -- the header, read once
 abbrev pub headerOf : List ℕ → Header
 headerOf b = record {
-  edition = First;  -- word 0
+  edition = First;  -- the only one; refusal 1 tests word 0
   h = countAt b 1;  -- piece length in dm
   pieces = countAt b 2;  -- N
   spacing = countAt b 3;  -- g, transverse spacing in cm
