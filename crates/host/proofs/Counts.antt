@@ -7,12 +7,13 @@ use native.Mathlib.Omega.{arith}
 use lib.Dec.{ltb}
 use borrow.Author.Tests.{ltb-true, ltb-false}
 use Rattle.exact.specs.declared.Question.{Question}
+use Rattle.exact.specs.declared.Question.the-variants.{Greatest, Least}
 use Rattle.exact.proofs.Bridge.{by-test}
-use Rattle.model.specs.Job.{Job, Limit, Live}
+use Rattle.model.specs.Job.{Job, Limit, service, ultimate, Live, normal, overload, HasTraffic}
 use Rattle.model.specs.Decode.{decode}
 use Rattle.model.specs.Lanes.{CentreFits, lanes, unit, highestIn}
 use Rattle.model.specs.Line.{HN, HO}
-use Rattle.model.specs.Answered.{Answered, refused, accepted, zeroTraffic, laneAt, reported, reportedElement, reportedLoad, TrafficRight, StateRight}
+use Rattle.model.specs.Answered.{Answered, refused, accepted, zeroTraffic, laneAt, trafficIn, extremeOf, stateIn, reported, reportedElement, reportedLoad, TrafficRight, StateRight}
 use Rattle.model.specs.declared.Answer.{Answer}
 use Rattle.model.specs.declared.Account.{Account}
 use Rattle.model.specs.declared.Entry.{Entry}
@@ -72,19 +73,20 @@ unfolding decode
 counts-fit (refused r v u p) =
     subst (λ (y : Answer). CountsFit (y .account)) (sym u) (record { normal = zero-centres; overload = zero-centres; service = tt; ultimate = tt; lanes = omega arith })
 counts-fit {b} {before} {after} {x} (accepted v r) =
-    let a = x .account in
-    let right = r .account in
     let n = lanes-few (decode b) in
     record {
-      normal = λ i. (small (a .normal .greatest) (right .normalGreatest) i, small (a .normal .least) (right .normalLeast) i);
-      overload = λ i. (small (a .overload .greatest) (right .overloadGreatest) i, small (a .overload .least) (right .overloadLeast) i);
-      service = rows-fit (decode b) after a (header .wide .most) (header .rows .most) _ (a .service) (right .service);
-      ultimate = rows-fit (decode b) after a (header .wide .most) (header .rows .most) _ (a .ultimate) (right .ultimate);
-      lanes = omega (arith, right .laneCount);
+      normal = λ i. (centre Greatest normal tt i, centre Least normal tt i);
+      overload = λ i. (centre Greatest overload tt i, centre Least overload tt i);
+      service = row service;
+      ultimate = row ultimate;
+      lanes = omega (arith, r .account .laneCount);
     }
   where
     header : HeaderFits b
     header = header-fits b (clear b (job-accepted b _ v) .c2)
 
-    small : {q : Question} {live : Live} (y : Extreme) → TrafficRight (decode b) after (x .account) q live y → (i : ℕ) → laneAt (y .placement) i .centre < 2 ^ 63
-    small y t i = centre-small (decode b) after (x .account) (header .wide .most) (header .rows .most) y t i
+    centre : (q : Question) (live : Live) → HasTraffic live → (i : ℕ) → laneAt (extremeOf q (trafficIn (x .account) live) .placement) i .centre < 2 ^ 63
+    centre q live h = centre-small (decode b) after (x .account) (header .wide .most) (header .rows .most) (extremeOf q (trafficIn (x .account) live)) (r .account .traffic q live h)
+
+    row : (limit : Limit) → RowsFit (stateIn (x .account) limit)
+    row limit = rows-fit (decode b) after (x .account) (header .wide .most) (header .rows .most) limit (stateIn (x .account) limit) (r .account .states limit)

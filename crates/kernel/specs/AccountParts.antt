@@ -7,12 +7,12 @@ use Rattle.exact.specs.Bounds.{Within}
 use Rattle.exact.specs.declared.Question.{Question}
 use Rattle.exact.specs.declared.Question.the-variants.{Greatest, Least}
 use Rattle.model.specs.Magnitudes.{trafficMost}
-use Rattle.model.specs.Job.{Job, Limit, service, ultimate, Live, normal, overload}
+use Rattle.model.specs.Job.{Job, Limit, Live, normal, overload, HasTraffic}
 use Rattle.model.specs.Format.{headerOf}
 use Rattle.model.specs.Refusals.{jobVerdict}
 use Rattle.model.specs.Lanes.{lanes}
-use Rattle.model.specs.Answered.{extremeOf, PositionRight}
-use Rattle.model.specs.declared.Sense.the-variants.{Raising, Lowering}
+use Rattle.model.specs.Answered.{positionOf, trafficIn, extremeOf, stateIn, PositionRight}
+use Rattle.model.specs.declared.Sense.{Sense}
 use Rattle.model.specs.declared.Traffic.{Traffic}
 use Rattle.model.specs.declared.State.{State}
 use Rattle.model.specs.declared.Account.{Account}
@@ -30,10 +30,8 @@ pub record Ready (b : List ℕ) (head : Header) : Type 0 where
 
 -- a live kind's two values, near enough to go on into the rows
 pub record TrafficFound (job : Job) (live : Live) (t : Traffic) : Type 0 where
-  pub greatest : TrafficPlaced Greatest job live (t .greatest)
-  pub least : TrafficPlaced Least job live (t .least)
-  pub nearGreatest : Within trafficMost (t .greatest .value)
-  pub nearLeast : Within trafficMost (t .least .value)
+  pub placed : (q : Question) → TrafficPlaced q job live (extremeOf q t)
+  pub near : (q : Question) → Within trafficMost (extremeOf q t .value)
 
 -- both live kinds', and the number of lanes
 pub record ValuesRight (job : Job) (v : TrafficValues) : Type 0 where
@@ -55,12 +53,7 @@ StateOf job a limit s = StateFound (job .effect) (job .row) (trafficOf (reported
 
 -- the parts of an account, each right by itself
 pub record PartsRight (job : Job) (a : Account) : Type 0 where
-  pub normalGreatest : TrafficPlaced Greatest job normal (a .normal .greatest)
-  pub normalLeast : TrafficPlaced Least job normal (a .normal .least)
-  pub overloadGreatest : TrafficPlaced Greatest job overload (a .overload .greatest)
-  pub overloadLeast : TrafficPlaced Least job overload (a .overload .least)
-  pub raising : PositionRight (job .line) Raising (a .raising)
-  pub lowering : PositionRight (job .line) Lowering (a .lowering)
-  pub service : StateOf job a service (a .service)
-  pub ultimate : StateOf job a ultimate (a .ultimate)
+  pub traffic : (q : Question) (live : Live) → HasTraffic live → TrafficPlaced q job live (extremeOf q (trafficIn a live))
+  pub positions : (sense : Sense) → PositionRight (job .line) sense (positionOf a sense)
+  pub states : (limit : Limit) → StateOf job a limit (stateIn a limit)
   pub laneCount : a .lanes ≡ lanes job

@@ -14,12 +14,12 @@ use Rattle.exact.specs.declared.Question.{Question}
 use Rattle.exact.proofs.Exact.{_⊕_, _⊗_, lit, _≐_, solve}
 use Rattle.exact.proofs.Ranges.{sum-cong, sum-scale, count-cong, length-listOf, getD-listOf}
 use Rattle.exact.proofs.Rounding.{rounded-scale}
-use Rattle.model.specs.Job.{InfluenceLine, Job, Live, noTraffic, normal, overload}
+use Rattle.model.specs.Job.{InfluenceLine, Job, Live, noTraffic, normal, overload, HasTraffic}
 use Rattle.model.specs.Line.{Kind, HN, HO, axle, bestPair, patchByte, patchBytes, uniformPart, lineEffect}
 use Rattle.model.specs.Lanes.{bit, lanes, unit, ordinateIn, twentieths, CentreFits}
 use Rattle.model.specs.Traffic.{laneEffect, setSum, bestSum, effectOf, trafficValue}
 use Rattle.model.specs.Arrangements.{Element, Load, unloaded, element, Arrangement, elementLine, elementEffect, carries, loadEffect, lanesUnder, sumUnder, sumOf, arranged, OverloadLanes, Lawful}
-use Rattle.model.specs.Answered.{laneAt, positionOf, reportedElement, reportedLoad, reported, reportedEffect, PositionRight, extremeOf, countedTraffic}
+use Rattle.model.specs.Answered.{laneAt, positionOf, reportedElement, reportedLoad, reported, reportedEffect, PositionRight, trafficIn, extremeOf, countedTraffic}
 use Rattle.model.specs.Placements.{BestCentre, EntryRight, entryIs, placedLanes, placedUnder, placedSum}
 use Rattle.model.specs.declared.Sense.{Sense}
 use Rattle.model.specs.declared.Entry.{Entry}
@@ -172,11 +172,10 @@ module _ (q : Question) (job : Job) (p : Placement) (s : ℕ) (over : ℕ → Bo
       (sum-cong n _ _ (λ i h. ap (λ (t : Bool). if t then laneEffect q job HN i else pos 0) (lanes-hn i h))))
 
 -- ---- a state
--- the traffic counted for a row is its value, where both reported placements give theirs
+-- the traffic counted for a row is its value, where the reported placement gives it
 pub counted-given : (q : Question) (job : Job) (patch : List ℕ) (a : Account) (unladen : Bool) (live : Live) →
-    reportedEffect q job patch a (extremeOf q (a .normal) .placement) ≡ trafficValue q job normal → reportedEffect q job patch a (extremeOf q (a .overload) .placement) ≡ trafficValue q job overload →
-    countedTraffic q job patch a unladen live ≡ (if unladen then pos 0 else trafficValue q job live)
-counted-given q job patch a true live hn ho = refl
-counted-given q job patch a false noTraffic hn ho = sym (no-traffic q job)
-counted-given q job patch a false normal hn ho = hn
-counted-given q job patch a false overload hn ho = ho
+    (HasTraffic live → reportedEffect q job patch a (extremeOf q (trafficIn a live) .placement) ≡ trafficValue q job live) → countedTraffic q job patch a unladen live ≡ (if unladen then pos 0 else trafficValue q job live)
+counted-given q job patch a true live given = refl
+counted-given q job patch a false noTraffic given = sym (no-traffic q job)
+counted-given q job patch a false normal given = given tt
+counted-given q job patch a false overload given = given tt

@@ -8,10 +8,10 @@ use Rattle.exact.specs.Choice.{if_then_else_}
 use Rattle.exact.specs.Questions.{better, extreme}
 use Rattle.exact.specs.declared.Question.{Question}
 use Rattle.exact.specs.declared.Question.the-variants.{Greatest, Least}
-use Rattle.model.specs.Job.{Effect, Limit, Live, normal, overload, Row, Job}
+use Rattle.model.specs.Job.{Effect, Limit, Live, HasTraffic, Row, Job}
 use Rattle.model.specs.Rows.{rowValue, bestChain, bestRow, Governs, laterIfBetter, isOf, governing, stateValue}
 use Rattle.model.specs.Traffic.{trafficValue}
-use Rattle.model.specs.Answered.{omits, extremeOf, reportedEffect, GoverningRight, StateRight}
+use Rattle.model.specs.Answered.{omits, trafficIn, extremeOf, reportedEffect, GoverningRight, StateRight}
 use Rattle.model.specs.declared.Account.{Account}
 use Rattle.model.specs.declared.Governing.{Governing}
 use Rattle.model.specs.declared.State.{State}
@@ -36,8 +36,7 @@ module _ (job : Job) (patch : List ℕ) (a : Account) (limit : Limit) (signed : 
   -- the values in hand are the job's, and the reported placements give them
   pub record Given (q : Question) (traffic : Live → ℤ) : Type 0 where
     pub values : (live : Live) → traffic live ≡ trafficValue q job live
-    pub normals : reportedEffect q job patch a (extremeOf q (a .normal) .placement) ≡ trafficValue q job normal
-    pub overloads : reportedEffect q job patch a (extremeOf q (a .overload) .placement) ≡ trafficValue q job overload
+    pub gives : (live : Live) → HasTraffic live → reportedEffect q job patch a (extremeOf q (trafficIn a live) .placement) ≡ trafficValue q job live
 
   same-value : (q : Question) (traffic : Live → ℤ) → Given q traffic → stateValue q job limit ≡ governs q (job .effect) (job .row) traffic limit (job .rows)
   same-value q traffic g = governing-cong q (job .row) _ _ limit (job .rows) (λ r. best-cong q (job .effect) (trafficValue q job) traffic (job .row r) (sym (g .values (job .row r .live))))
@@ -57,7 +56,7 @@ module _ (job : Job) (patch : List ℕ) (a : Account) (limit : Limit) (signed : 
         mayOmit = s .right .mayOmit;
         gives =
             ap (rowValue (job .effect) row 0 (omits (x .omitted)))
-            (counted-given q job patch a (x .unladen) (row .live) (g .normals) (g .overloads) ∙ ap (λ (z : ℤ). if x .unladen then pos 0 else z) (sym (g .values (row .live))))
+            (counted-given q job patch a (x .unladen) (row .live) (g .gives (row .live)) ∙ ap (λ (z : ℤ). if x .unladen then pos 0 else z) (sym (g .values (row .live))))
             ∙ s .right .gives;
         laden = s .right .laden;
       }

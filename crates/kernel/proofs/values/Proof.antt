@@ -4,6 +4,7 @@ use Prim.Native.Nat.{ℕ, _≤_}
 use lib.Dec.{lit≤}
 use Rattle.exact.specs.declared.Question.{Question}
 use Rattle.exact.specs.declared.Question.the-variants.{Greatest, Least}
+use Rattle.exact.proofs.Extremes.{by-question}
 use Rattle.model.specs.Job.{Job}
 use Rattle.model.specs.Decode.{decode}
 use Rattle.model.specs.Line.{HN, HO}
@@ -95,16 +96,12 @@ returns c =
     let ol = c .overload2 .ensures in
     record {
       normal = record {
-        greatest = ng .1 (job at) (over at) (factor at Greatest) (hn-are at);
-        least = nl .1 (job at) (over at) (factor at Least) (hn-are at);
-        nearGreatest = ng .0;
-        nearLeast = nl .0;
+        placed = by-question _ (ng .1 (job at) (over at) (factor at Greatest) (hn-are at)) (nl .1 (job at) (over at) (factor at Least) (hn-are at));
+        near = by-question _ (ng .0) (nl .0);
       };
       overload = record {
-        greatest = og .1 (job at) (over at) (factor at Greatest) (hn-are at) (ho-are at);
-        least = ol .1 (job at) (over at) (factor at Least) (hn-are at) (ho-are at);
-        nearGreatest = og .0;
-        nearLeast = ol .0;
+        placed = by-question _ (og .1 (job at) (over at) (factor at Greatest) (hn-are at) (ho-are at)) (ol .1 (job at) (over at) (factor at Least) (hn-are at) (ho-are at));
+        near = by-question _ (og .0) (ol .0);
       };
       laneCount = over at .lanes;
     }
