@@ -18,6 +18,5 @@ pub mod Uniform
 pub mod Centre
 pub mod Sets
 pub mod Unbeaten
-pub mod Few
 pub mod States
 pub mod Attained

@@ -1,3 +1,4 @@
+mod Few
 pub mod Terms
 pub mod Omissions
 pub mod Loaded

@@ -25,11 +25,11 @@ use Rattle.model.specs.Chains.{chainFrom, nextRecord}
 use Rattle.model.specs.Decode.{termsFrom}
 use Rattle.model.specs.Job.{Effect, Term}
 use Rattle.model.specs.Lanes.{bit}
-use Rattle.model.specs.Rows.{share, names, Distinct, NamesTo, bestChain}
+use Rattle.model.specs.Rows.{share, names, bestChain}
 use Rattle.model.specs.Answered.{omits}
-use Rattle.model.proofs.Few.{few}
+use Rattle.rows.proofs.Few.{few}
 use Rattle.model.proofs.States.{SuitsAll, suits-share, chain-attained}
-use Rattle.rows.specs.Tables.{RecordsInTables}
+use Rattle.rows.specs.Tables.{Distinct, NamesTo, RecordsInTables}
 use Rattle.rows.specs.declared.chain.Share.{Share}
 use Rattle.rows.specs.declared.chain.Chained.{Chained}
 use Rattle.rows.specs.Chained.{termAt, ShareRight, leavesShare, extendedBy, ChainRight}

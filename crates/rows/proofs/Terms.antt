@@ -10,7 +10,8 @@ use borrow.Author.Tests.{eqb-true}
 use Rattle.exact.proofs.Bridge.{by-test}
 use Rattle.model.specs.Chains.{recordEffect, nextRecord, chainFrom, step, walk, EverRepeats, returns, namesTwice}
 use Rattle.model.specs.Decode.{termsFrom}
-use Rattle.model.specs.Rows.{names, Distinct}
+use Rattle.model.specs.Rows.{names}
+use Rattle.rows.specs.Tables.{Distinct}
 use Rattle.model.proofs.Chains.{Bounded, names-exact}
 use Rattle.rows.specs.Chained.{termAt}
 

@@ -1,6 +1,8 @@
 -- What is asked of the effect, row and record sections before they are combined. An item's words are in its section where the item's number times its bytes is at most the section's length.
 use Prim.Native.Nat.{ℕ, _+_, _-_, _*_, _≤_}
-use mathlib.Core.List.{List}
+use mathlib.Core.Path.{_≡_}
+use mathlib.Core.Bool.{false}
+use mathlib.Core.List.{List, [], _∷_}
 use lib.ListN.{length}
 use Rattle.exact.specs.Bounds.{Within}
 use Rattle.model.specs.Words.{wordAt, countAt}
@@ -8,7 +10,18 @@ use Rattle.model.specs.Format.{size, bytes}
 use Rattle.model.specs.declared.Part.the-variants.{Effects, Rows, Records}
 use Rattle.model.specs.Chains.{recordEffect, recordFactor, nextRecord}
 use Rattle.model.specs.Decode.{firstRecord, termsFrom}
-use Rattle.model.specs.Rows.{Distinct}
+use Rattle.model.specs.Job.{Term}
+use Rattle.model.specs.Rows.{names}
+
+-- no two of the terms name the same effect
+abbrev pub Distinct : List Term → Type 0
+Distinct [] = Unit {0}
+Distinct (t ∷ rest) = (names rest (t .effect) ≡ false) × Distinct rest
+
+-- every term names one of effects 1 .. n
+abbrev pub NamesTo : ℕ → List Term → Type 0
+NamesTo n [] = Unit {0}
+NamesTo n (t ∷ rest) = (1 ≤ t .effect) × (t .effect ≤ n) × NamesTo n rest
 
 -- every effect's value, in kN·U, is within its limits
 abbrev pub EffectsInReach : List ℕ → Type 0

@@ -9,8 +9,7 @@ ghost use Rattle.model.specs.Format.{bytes};
 ghost use Rattle.model.specs.declared.Part.the-variants.{Effects, Records};
 ghost use Rattle.model.specs.Magnitudes.{effectMost, shareMost, chainMost};
 ghost use Rattle.model.specs.Decode.{effectAt, termsFrom};
-ghost use Rattle.model.specs.Rows.{Distinct};
-ghost use Rattle.rows.specs.Tables.{EffectsInReach, RecordsInTables};
+ghost use Rattle.rows.specs.Tables.{Distinct, EffectsInReach, RecordsInTables};
 ghost use Rattle.rows.specs.Chained.{termAt, ShareRight, leavesShare, extendedBy, chainFor, ChainRight};
 
 // Effect e's value in N·U.

@@ -8,7 +8,7 @@ use Rattle.exact.specs.declared.Question.{Question}
 use Rattle.exact.specs.declared.Question.the-variants.{Greatest, Least}
 use Rattle.exact.proofs.Extremes.{by-question}
 use Rattle.model.specs.Decode.{effectAt, termsFrom}
-use Rattle.model.specs.Rows.{NamesTo}
+use Rattle.rows.specs.Tables.{NamesTo}
 use Rattle.rows.specs.Chained.{chainFor, ChainRight}
 use Rattle.rows.proofs.Terms.{terms-none, terms-spent}
 use Rattle.rows.proofs.Omissions.{terms-named, Sofar, sofar-start, sofar-next, sofar-near, sofar-all}

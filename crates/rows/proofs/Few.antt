@@ -12,8 +12,9 @@ use borrow.Author.Tests.{eq-eqb, ne-eqb}
 use Rattle.exact.specs.Choice.{if_then_else_}
 use Rattle.exact.specs.Ranges.{countTo}
 use Rattle.exact.proofs.Ranges.{count-cong}
 use Rattle.model.specs.Job.{Term}
-use Rattle.model.specs.Rows.{names, Distinct, NamesTo}
+use Rattle.model.specs.Rows.{names}
+use Rattle.rows.specs.Tables.{Distinct, NamesTo}
 
 -- one more passes
 count-more : (n i : ℕ) (test : ℕ → Bool) → i < n → test i ≡ false → countTo n (λ j. eqb (suc i) (suc j) || test j) ≡ countTo n test + 1
