@@ -1,6 +1,3 @@
-pub mod Sizes
-pub mod Words
-pub mod Scans
-pub mod Pieces
+pub mod Faults
 pub mod Rulings
 pub mod Linked

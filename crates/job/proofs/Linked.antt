@@ -25,10 +25,10 @@ use Rattle.model.specs.declared.Part.the-variants.{Rows, Records}
 use Rattle.chains.specs.Linked.{Linked, EffectsTo}
 use Rattle.job.specs.declared.defects.Defect.{Defect}
 use Rattle.job.specs.declared.defects.Defect.the-variants.{Repeat}
-use Rattle.job.specs.Sized.{Sized}
+use Rattle.sections.specs.Sized.{Sized}
 use Rattle.job.specs.Defects.{isDefective, chainPasses}
-use Rattle.job.proofs.Sizes.{part-length}
-use Rattle.job.proofs.Scans.{answer-same}
+use Rattle.sections.proofs.Sizes.{part-length}
+use Rattle.limits.proofs.Scans.{answer-same}
 
 -- a chain ends within the count of records exactly if it does not come back
 pub returns-test : (s : List ℕ) (n f : ℕ) → Bounded s n f → returns s n f ≡ not (eqb (walk s f n) 0)

@@ -13,9 +13,9 @@ use Rattle.model.specs.Format.{headerOf, wordsDue}
 use Rattle.model.specs.Refusals.{Refusal, Test, _finds_, refuse, firstRefusal, jobTests, jobVerdict, fault1, fault2, fault3, fault6}
 use Rattle.model.specs.declared.Header.{Header}
 use Rattle.model.proofs.Verdict.{has-header, size-fits}
-use Rattle.job.specs.Sized.{Counted, Sized}
+use Rattle.sections.specs.Sized.{Counted, Sized}
 use Rattle.job.specs.Rulings.{Rules, testOf, Passed}
-use Rattle.job.proofs.Sizes.{counted}
+use Rattle.sections.proofs.Sizes.{counted}
 
 -- the first test that finds a place refuses
 first-found : (tests : List Test) (k : ℕ) {p : ℕ} → ((j : ℕ) → j < k → getD tests j (0 finds none) .found ≡ none) → getD tests k (0 finds none) .found ≡ some p →

@@ -1,4 +1,2 @@
-pub mod Sized
-pub mod Lines
 pub mod Defects
 pub mod Rulings

@@ -7,15 +7,15 @@ ghost use Rattle.model.specs.Refusals.{fault6};
 ghost use Rattle.model.specs.Format.{bytes};
 ghost use Rattle.model.specs.declared.Part.the-variants.{Records};
 ghost use Rattle.chains.specs.Linked.{Linked, EffectsTo};
-ghost use Rattle.job.specs.Sized.{placeOf, Sized};
+ghost use Rattle.sections.specs.Sized.{Sized};
+ghost use Rattle.limits.specs.Faults.{placeOf};
 ghost use Rattle.job.specs.Defects.{isDefective, firstDefective};
-use crate::limits::Fault;
-use crate::sections;
+use limits::Fault;
 use model::Header;
 use model::Part;
 
 // What may be wrong with a chain.
-pub enum Defect {
+pub(crate) enum Defect {
     Return,
     Repeat,
 }

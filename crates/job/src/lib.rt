@@ -1,7 +1,3 @@
-// From a job's bytes to its words, sections and refusals.
-pub mod defects;
-pub mod header;
-pub mod limits;
-pub mod lines;
+// A job's refusals and the verdict.
+mod defects;
 pub mod refusals;
-pub mod sections;

@@ -8,18 +8,17 @@ ghost use Rattle.model.specs.Fields.{moved};
 ghost use Rattle.model.specs.Format.{headerOf, bytes, start, fault};
 ghost use Rattle.model.specs.Refusals.{fault1, fault2, fault3, fault4, fault5, fault6, rowFault, jobVerdict};
 ghost use Rattle.model.specs.declared.Part.the-variants.{Head, Line};
-ghost use Rattle.job.specs.Sized.{placeOf, Counted, Sized};
+ghost use Rattle.sections.specs.Sized.{Counted, Sized};
+ghost use Rattle.limits.specs.Faults.{placeOf};
 ghost use Rattle.job.specs.Defects.{chainPasses};
 ghost use Rattle.job.specs.Rulings.{Rules, testOf, Passed};
 use crate::defects;
 use crate::defects::Defect;
-use crate::header;
-use crate::limits;
-use crate::limits::Fault;
-use crate::lines;
-use crate::sections;
+use limits::Fault;
+use limits::lines;
 use model::Header;
 use model::Part;
+use sections::header;
 
 // A refusal's number and place; number 0 is acceptance.
 pub struct Ruling {
@@ -48,7 +47,7 @@ fn limits(s: &[u8], head: Header) -> Fault
     requires { ⌜ (head ≡ headerOf (now s)) × (bytes Head ≤ length (now s)) ⌝ }
     ensures { λ r. ⌜ placeOf r ≡ fault2 (now (s .entry)) ⌝ }
 {
-    limits::header_misfit(sections::header(s, head), head)
+    limits::header_misfit(header::section(s, head), head)
 }
 
 // 3: the word count isn't what the header calls for.

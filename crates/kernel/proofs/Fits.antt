@@ -19,8 +19,8 @@ use Rattle.model.proofs.Verdict.{Clear, clear}
 use Rattle.model.proofs.HeaderLimits.{HeaderFits, header-fits, dynamic-range}
 use Rattle.model.proofs.LineLimits.{line-within, transverse-within, OneSigned}
 use Rattle.model.proofs.Accepted.{accepted-signed, accepted-spaced}
-use Rattle.job.specs.Sized.{Sized}
-use Rattle.job.proofs.Sizes.{part-length}
+use Rattle.sections.specs.Sized.{Sized}
+use Rattle.sections.proofs.Sizes.{part-length}
 use Rattle.job.proofs.Rulings.{is-sized}
 use Rattle.line.specs.LineFits.{LineFits}
 use Rattle.lanes.specs.Transverse.{TransverseFits}

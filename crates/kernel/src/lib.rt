@@ -1,8 +1,6 @@
 // From a job's bytes to its account.
 use exact::Question;
-use job::header;
 use job::refusals;
-use job::sections;
 use lanes::centres;
 use lanes::traffic;
 use lanes::traffic::Effects;
@@ -29,6 +27,7 @@ use rows::state;
 use rows::state::LimitStates;
 use rows::state::LiveBoth;
 use rows::state::LiveValues;
+use sections::header;
 ghost use mathlib.Core.Path.{_≡_};
 ghost use Rattle.model.specs.Decode.{decode};
 ghost use Rattle.model.specs.Job.{Limit};

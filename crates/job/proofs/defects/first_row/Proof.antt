@@ -15,8 +15,8 @@ use Rattle.model.specs.Refusals.{rowTests}
 use Rattle.model.specs.declared.Header.{Header}
 use Rattle.model.specs.declared.Part.the-variants.{Rows}
 use Rattle.job.specs.Defects.{chainPasses}
-use Rattle.job.proofs.Scans.{Searched, search-begins, search-goes-on, search-found, search-over}
-use Rattle.job.proofs.Sizes.{part-length}
+use Rattle.limits.proofs.Scans.{Searched, search-begins, search-goes-on, search-found, search-over}
+use Rattle.sections.proofs.Sizes.{part-length}
 use Rattle.job.proofs.Linked.{first-is, passes, chain-there}
 use Rattle.job.proofs.defects.first_row.Statement.{statement}
 use Rattle.job.proofs.defects.first_row.Tie as tie

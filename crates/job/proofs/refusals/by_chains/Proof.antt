@@ -1,7 +1,7 @@
 use mathlib.Core.Path.{refl, sym, _∙_, ap}
 use native.Mathlib.Omega.{arith}
 use Rattle.model.specs.Refusals.{jobTests, fault7}
-use Rattle.job.specs.Sized.{placeOf}
+use Rattle.limits.specs.Faults.{placeOf}
 use Rattle.job.proofs.Linked.{none-returns, repeats-alone}
 use Rattle.job.proofs.Rulings.{table-there, ruled, refuses, goes-on, accepts}
 use borrow.Author.Needs.{needs}

@@ -7,7 +7,7 @@ use Rattle.model.specs.declared.Header.{Header}
 use Rattle.model.specs.declared.Part.the-variants.{Rows}
 use Rattle.model.proofs.Fits.{below}
 use Rattle.job.specs.Defects.{firstDefective}
-use Rattle.job.proofs.Sizes.{counts, few-words}
+use Rattle.sections.proofs.Sizes.{counts, few-words}
 use borrow.Author.Needs.{needs}
 use Rattle.job.proofs.refusals.defective.Statement.{statement}
 use Rattle.job.proofs.refusals.defective.Tie as tie

@@ -5,7 +5,7 @@ use Rattle.model.specs.Fields.{moved, misfit}
 use Rattle.model.specs.Format.{format, words, start, sectionOf}
 use Rattle.model.specs.declared.Header.{Header}
 use Rattle.model.proofs.Fits.{below}
-use Rattle.job.proofs.Sizes.{counts, part-length, few-words}
+use Rattle.sections.proofs.Sizes.{counts, part-length, few-words}
 use borrow.Author.Needs.{needs}
 use Rattle.job.proofs.refusals.fault.Statement.{statement}
 use Rattle.job.proofs.refusals.fault.Tie as tie

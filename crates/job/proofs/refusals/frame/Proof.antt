@@ -6,7 +6,7 @@ use mir.Syntax.{w64}
 use borrow.Author.Tests.{le-leb, lt-leb, eq-eqb, ne-eqb}
 use Rattle.exact.proofs.Held.{got, lit, eq-yes}
 use Rattle.model.specs.Refusals.{fault1}
-use Rattle.job.proofs.Words.{is-failed}
+use Rattle.limits.proofs.Words.{is-failed}
 use borrow.Author.Needs.{needs}
 use Rattle.job.proofs.refusals.frame.Statement.{statement}
 use Rattle.job.proofs.refusals.frame.Tie as tie

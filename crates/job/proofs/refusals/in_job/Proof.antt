@@ -1,7 +1,7 @@
 use mathlib.Core.Path.{sym, ap, ap₂}
 use native.Mathlib.Omega.{arith}
 use Rattle.model.specs.Fields.{moved}
-use Rattle.job.specs.Sized.{placeOf}
+use Rattle.limits.specs.Faults.{placeOf}
 use borrow.Author.Needs.{needs}
 use Rattle.job.proofs.refusals.in_job.Statement.{statement}
 use Rattle.job.proofs.refusals.in_job.Tie as tie

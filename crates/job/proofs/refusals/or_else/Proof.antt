@@ -1,7 +1,7 @@
 use mathlib.Core.Path.{sym, ap}
 use Rattle.exact.specs.Choice.{orElse}
-use Rattle.job.specs.declared.limits.Fault.{Fault}
-use Rattle.job.specs.Sized.{placeOf}
+use Rattle.limits.specs.declared.Fault.{Fault}
+use Rattle.limits.specs.Faults.{placeOf}
 use borrow.Author.Needs.{needs}
 use Rattle.job.proofs.refusals.or_else.Statement.{statement}
 use Rattle.job.proofs.refusals.or_else.Tie as tie

@@ -2,7 +2,7 @@ use borrow.Author.Needs.{needs}
 use mathlib.Core.Path.{sym, _∙_, ap₂}
 use Rattle.exact.specs.Choice.{orElse}
 use Rattle.model.specs.Refusals.{fault4}
-use Rattle.job.proofs.Sizes.{or-nothing}
+use Rattle.job.proofs.Faults.{or-nothing}
 use Rattle.job.proofs.refusals.ordinates.Statement.{statement}
 use Rattle.job.proofs.refusals.ordinates.Tie as tie
 

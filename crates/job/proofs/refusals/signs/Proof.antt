@@ -8,7 +8,7 @@ use Rattle.model.specs.declared.Header.{Header}
 use Rattle.model.specs.declared.Part.the-variants.{Line}
 use Rattle.model.proofs.HeaderLimits.{header-fits}
 use Rattle.model.proofs.Fits.{below}
-use Rattle.job.proofs.Sizes.{counts, part-length, few-words}
+use Rattle.sections.proofs.Sizes.{counts, part-length, few-words}
 use Rattle.job.proofs.refusals.signs.Statement.{statement}
 use Rattle.job.proofs.refusals.signs.Tie as tie
 

@@ -2,7 +2,7 @@ use mathlib.Core.Path.{_≡_, sym, _∙_, ap, subst}
 use Prim.Native.Nat.{_-_, _≤_}
 use native.Mathlib.Omega.{arith}
 use Rattle.model.proofs.Verdict.{has-header}
-use Rattle.job.specs.Sized.{placeOf}
+use Rattle.limits.specs.Faults.{placeOf}
 use Rattle.job.specs.Rulings.{Passed}
 use Rattle.job.proofs.Rulings.{begins, ruled, frame-refuses, refuses, goes-on}
 use borrow.Author.Needs.{needs}

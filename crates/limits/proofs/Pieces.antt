@@ -1,0 +1,36 @@
+-- The pieces of a line as refusals 4 and 5 test them.
+use mathlib.Core.Path.{_≡_, refl, ap}
+use mathlib.Core.Bool.{Bool, not}
+use mathlib.Core.Option.{none, some}
+use mathlib.Core.List.{List}
+use Prim.Native.Nat.{ℕ, _+_, _*_}
+use native.Mathlib.Nat.{add-zero}
+use native.Mathlib.Omega.{arith}
+use lib.IntN.{pos}
+use lib.ListN.{length}
+use Rattle.exact.specs.Choice.{if_then_else_}
+use Rattle.exact.proofs.Bridge.{by-test}
+use Rattle.model.specs.Words.{wordAt}
+use Rattle.model.specs.Fields.{moved, itemMisfit, misfit}
+use Rattle.model.specs.Format.{format}
+use Rattle.model.specs.Refusals.{crosses, signs}
+use Rattle.model.specs.declared.Header.{Header}
+use Rattle.model.specs.declared.Part.the-variants.{Line}
+use Rattle.limits.specs.Lines.{AllWithin, NoneCrosses}
+use Rattle.limits.proofs.Scans.{answer-none}
+
+-- a piece by the test of refusal 5, of known answer
+pub piece : (n : ℕ) (s : List ℕ) (i : ℕ) {t : Bool} → crosses (wordAt s (2 * i)) (wordAt s (2 * i + 1)) ≡ t → itemMisfit (signs n .fields) s i ≡ (if t then some (2 * i) else none)
+piece n s i {t} e =
+    rw (add-zero (2 * i), e)
+    (by-test t (λ t. moved (2 * i) (if not t then none else some 0) ≡ (if t then some (2 * i) else none)) (λ _. ap some (add-zero (2 * i))) (λ _. refl))
+
+-- where none crosses, refusal 5 finds nothing
+pub none-crossing : (s : List ℕ) (n : ℕ) → NoneCrosses s n → misfit (signs n) s ≡ none
+unfolding misfit
+none-crossing s n h = answer-none 0 n (itemMisfit (signs n .fields) s) (λ i _ l. piece n s i (h i (omega arith)))
+
+-- where all ordinates are within their limits, refusal 4 finds nothing
+pub all-within : (head : Header) (s : List ℕ) → length s ≡ 8 * head .pieces → AllWithin s (pos 5000) → misfit (format head Line) s ≡ none
+unfolding misfit
+all-within head s e h = answer-none 0 (head .pieces) (itemMisfit (format head Line .fields) s) (λ i _ l. rw (add-zero (2 * i), h (2 * i) (omega arith), h (2 * i + 1) (omega arith)) refl)

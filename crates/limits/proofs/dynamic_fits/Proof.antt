@@ -1,0 +1,29 @@
+use borrow.Author.Needs.{needs}
+use lib.Dec.{lit<}
+use mir.Syntax.{w64}
+use Rattle.exact.proofs.Held.{got, lit, eq-yes}
+use Rattle.limits.proofs.Words.{is-failed}
+use Rattle.limits.proofs.dynamic_fits.Statement.{statement}
+use Rattle.limits.proofs.dynamic_fits.Tie as tie
+
+returns : tie.Need-returns
+returns c =
+    let e1 = c .before in
+    rw (eq-yes (got w64 (e1 .before .word .ok) (e1 .before .word .ensures)) (lit w64 1 (lit< tt)) (e1 .if1 .taken)) (c .in-range .ensures)
+
+returns-2 : tie.Need-returns-2
+returns-2 c =
+    let e2 = c .before in
+    let e1 = e2 .before in
+    rw (eq-yes (got w64 (e1 .before .word .ok) (e1 .before .word .ensures)) (lit w64 2 (lit< tt)) (e2 .if2 .taken)) (c .in-range2 .ensures)
+
+returns-3 : tie.Need-returns-3
+returns-3 c =
+    let e2 = c .before in
+    let e1 = e2 .before in
+    rw (is-failed 1 (e1 .before .word .ensures .0) (e1 .if1 .left), is-failed 2 (e1 .before .word .ensures .0) (e2 .if2 .left)) (c .in-range3 .ensures)
+
+pub dynamic-fits-spec : {M : Type 1} → statement M
+dynamic-fits-spec =
+    tie.close
+    (tie.spec (λ c κs. search needs) (λ c κs. search needs) returns (λ c κs. search needs) returns-2 (λ c κs. search needs) returns-3)

@@ -1,0 +1,17 @@
+use borrow.Author.Needs.{needs}
+use mathlib.Core.Path.{refl}
+use lib.Dec.{lit<}
+use mir.Syntax.{w64}
+use Rattle.exact.proofs.Held.{got, lit, eq-yes}
+use Rattle.limits.proofs.Words.{is-failed}
+use Rattle.limits.proofs.live_limit.Statement.{statement}
+use Rattle.limits.proofs.live_limit.Tie as tie
+
+returns : tie.Need-returns
+returns c = rw (eq-yes (got w64 (c .before .word .ok) (c .before .word .ensures)) (lit w64 0 (lit< tt)) (c .if1 .taken)) refl
+
+returns-2 : tie.Need-returns-2
+returns-2 c = rw (is-failed 0 (c .before .word .ensures .0) (c .if1 .left)) refl
+
+pub live-limit-spec : {M : Type 1} → statement M
+live-limit-spec = tie.close (tie.spec (λ c κs. search needs) returns returns-2)

@@ -1,0 +1,227 @@
+// The lowest place at fault in a part, item by item, by the limits of its row of the table. Places count from the part's first word.
+pub mod lines;
+
+ghost use mathlib.Core.Path.{_≡_};
+ghost use mathlib.Core.Option.{some};
+ghost use mathlib.Core.List.{[], _∷_};
+ghost use Prim.Native.Nat.{_+_, _*_, _≤_, _<_};
+ghost use lib.IntN.{pos, negℤ};
+ghost use lib.ListN.{length, drop};
+ghost use Rattle.exact.specs.Bounds.{Within};
+ghost use Rattle.exact.specs.Choice.{if_then_else_, between};
+ghost use Rattle.model.specs.Words.{wordAt};
+ghost use Rattle.model.specs.Fields.{range, oneOf, given, both, misfitFrom, itemFrom, misfit};
+ghost use Rattle.model.specs.Format.{is, reach, dynamicFits, format, size, bytes, words};
+ghost use Rattle.model.specs.declared.Part.the-variants.{Head, Line, Transverse, Effects, Rows, Records};
+ghost use Rattle.sections.specs.Sized.{Counted};
+ghost use Rattle.limits.specs.Faults.{placeOf};
+use model::Header;
+use model::Part;
+
+// A place at fault, or none.
+pub enum Fault {
+    At(usize),
+    Clear,
+}
+
+// Word p is from lo to hi, counts both.
+fn in_range(s: &[u8], p: usize, lo: usize, hi: usize) -> bool
+    requires { ⌜ 4 * p + 4 ≤ length (now s) ⌝ }
+    ensures { λ r. ⌜ r ≡ between (pos lo) (pos hi) (wordAt (now (s .entry)) p) ⌝ }
+{
+    let x = words::word(s, p);
+    if x < 0 {
+        return false;
+    }
+    let n = x as usize;
+    if lo <= n {
+        return n <= hi;
+    }
+    false
+}
+
+// Word p is from -m to m.
+fn within(s: &[u8], p: usize, m: i64) -> bool
+    requires { ⌜ (4 * p + 4 ≤ length (now s)) × Within 1000000000 m ⌝ }
+    ensures { λ r. ⌜ r ≡ between (negℤ m) m (wordAt (now (s .entry)) p) ⌝ }
+{
+    exact::is_between(-m, m, words::word(s, p))
+}
+
+// The field of an item at fault: field j unless its word is admitted, else a later one.
+fn field(j: usize, admitted: bool, later: Fault) -> Fault
+    ensures { λ r. ⌜ placeOf r ≡ (if admitted then placeOf later else some j) ⌝ }
+{
+    if admitted {
+        return later;
+    }
+    Fault::At(j)
+}
+
+// h, in dm.
+fn length_fits(s: &[u8]) -> bool
+    requires { ⌜ bytes Head ≤ length (now s) ⌝ }
+    ensures { λ r. ⌜ r ≡ oneOf (1 ∷ 2 ∷ 5 ∷ 10 ∷ 25 ∷ 50 ∷ []) (itemFrom (now (s .entry)) 0 0) (wordAt (now (s .entry)) 1) ⌝ }
+{
+    let h = words::word(s, 1);
+    if h == 1 {
+        return true;
+    }
+    if h == 2 {
+        return true;
+    }
+    if h == 5 {
+        return true;
+    }
+    if h == 10 {
+        return true;
+    }
+    if h == 25 {
+        return true;
+    }
+    if h == 50 {
+        return true;
+    }
+    false
+}
+
+// N, and N times h at most 1000.
+fn pieces_fit(s: &[u8]) -> bool
+    requires { ⌜ bytes Head ≤ length (now s) ⌝ }
+    ensures { λ r. ⌜ r ≡ both (range 1 1000) (given 1 reach) (itemFrom (now (s .entry)) 0 0) (wordAt (now (s .entry)) 2) ⌝ }
+{
+    if in_range(s, 2, 1, 1000) {
+        return words::word(s, 2) * words::word(s, 1) <= 1000;
+    }
+    false
+}
+
+// The dynamic value for its kind.
+fn dynamic_fits(s: &[u8]) -> bool
+    requires { ⌜ bytes Head ≤ length (now s) ⌝ }
+    ensures { λ r. ⌜ r ≡ dynamicFits (wordAt (now (s .entry)) 5) (wordAt (now (s .entry)) 6) ⌝ }
+{
+    let kind = words::word(s, 5);
+    if kind == 1 {
+        return in_range(s, 6, 1000, 1300);
+    }
+    if kind == 2 {
+        return in_range(s, 6, 0, 0);
+    }
+    in_range(s, 6, 0, 5000)
+}
+
+// The field at fault among the header's words 6 to 9: dynamic value, E, R, C.
+fn counts_misfit(s: &[u8], head: Header) -> Fault
+    requires { ⌜ bytes Head ≤ length (now s) ⌝ }
+    ensures { λ r. ⌜ placeOf r ≡ misfitFrom 6 (drop 6 (format head Head .fields)) (itemFrom (now (s .entry)) 0 0) ⌝ }
+{
+    let records = field(9, in_range(s, 9, 0, 512), Fault::Clear);
+    let rows = field(8, in_range(s, 8, 1, 32), records);
+    let effects = field(7, in_range(s, 7, 0, 16), rows);
+    field(6, dynamic_fits(s), effects)
+}
+
+// The header's field at fault; its edition is tested before.
+pub fn header_misfit(s: &[u8], head: Header) -> Fault
+    requires { ⌜ bytes Head ≤ length (now s) ⌝ }
+    ensures { λ r. ⌜ placeOf r ≡ misfitFrom 0 (format head Head .fields) (itemFrom (now (s .entry)) 0 0) ⌝ }
+{
+    let counts = counts_misfit(s, head);
+    let kind = field(5, in_range(s, 5, 1, 3), counts);
+    let width = field(4, in_range(s, 4, 300, 2079), kind);
+    let spacing = field(3, in_range(s, 3, 10, 50), width);
+    let pieces = field(2, pieces_fit(s), spacing);
+    field(1, length_fits(s), pieces)
+}
+
+// A piece: left and right ordinate.
+fn piece_misfit(s: &[u8], head: Header, i: usize) -> Fault
+    requires { ⌜ bytes Line * i + bytes Line ≤ length (now s) ⌝ }
+    ensures { λ r. ⌜ placeOf r ≡ misfitFrom 0 (format head Line .fields) (itemFrom (now (s .entry)) (size Line * i) i) ⌝ }
+{
+    let p = model::PIECE_WORDS * i;
+    let right = field(1, within(s, p + 1, 5000), Fault::Clear);
+    field(0, within(s, p, 5000), right)
+}
+
+// A transverse ordinate.
+fn transverse_misfit(s: &[u8], head: Header, i: usize) -> Fault
+    requires { ⌜ bytes Transverse * i + bytes Transverse ≤ length (now s) ⌝ }
+    ensures { λ r. ⌜ placeOf r ≡ misfitFrom 0 (format head Transverse .fields) (itemFrom (now (s .entry)) (size Transverse * i) i) ⌝ }
+{
+    field(0, within(s, i, 1000), Fault::Clear)
+}
+
+// An effect: value, mark.
+fn effect_misfit(s: &[u8], head: Header, i: usize) -> Fault
+    requires { ⌜ bytes Effects * i + bytes Effects ≤ length (now s) ⌝ }
+    ensures { λ r. ⌜ placeOf r ≡ misfitFrom 0 (format head Effects .fields) (itemFrom (now (s .entry)) (size Effects * i) i) ⌝ }
+{
+    let p = model::EFFECT_WORDS * i;
+    let mark = field(1, in_range(s, p + 1, 1, 2), Fault::Clear);
+    field(0, within(s, p, 1000000000), mark)
+}
+
+// The greatest live factor of the live kind at word p.
+fn live_limit(s: &[u8], p: usize) -> usize
+    requires { ⌜ 4 * p + 4 ≤ length (now s) ⌝ }
+    ensures { λ r. ⌜ r ≡ (if is 0 (wordAt (now (s .entry)) p) then 0 else 3000) ⌝ }
+{
+    if words::word(s, p) == 0 {
+        return 0;
+    }
+    3000
+}
+
+// A row: limit state, live kind, live factor, first record.
+fn row_misfit(s: &[u8], head: Header, i: usize) -> Fault
+    requires { ⌜ bytes Rows * i + bytes Rows ≤ length (now s) ⌝ }
+    ensures { λ r. ⌜ placeOf r ≡ misfitFrom 0 (format head Rows .fields) (itemFrom (now (s .entry)) (size Rows * i) i) ⌝ }
+{
+    let p = model::ROW_WORDS * i;
+    let first = field(3, in_range(s, p + 3, 0, head.records), Fault::Clear);
+    let factor = field(2, in_range(s, p + 2, 0, live_limit(s, p + 1)), first);
+    let live = field(1, in_range(s, p + 1, 0, 2), factor);
+    field(0, in_range(s, p, 1, 2), live)
+}
+
+// A record: effect, factor, next record.
+fn record_misfit(s: &[u8], head: Header, i: usize) -> Fault
+    requires { ⌜ bytes Records * i + bytes Records ≤ length (now s) ⌝ }
+    ensures { λ r. ⌜ placeOf r ≡ misfitFrom 0 (format head Records .fields) (itemFrom (now (s .entry)) (size Records * i) i) ⌝ }
+{
+    let p = model::RECORD_WORDS * i;
+    let next = field(2, in_range(s, p + 2, 0, head.records), Fault::Clear);
+    let factor = field(1, in_range(s, p + 1, 0, 3000), next);
+    field(0, in_range(s, p, 1, head.effects), factor)
+}
+
+// The field at fault of item i of a part.
+fn item_misfit(s: &[u8], head: Header, part: Part, i: usize) -> Fault
+    requires { ⌜ (i < format head part .items) × (4 * words head part ≤ length (now s)) ⌝ }
+    ensures { λ r. ⌜ placeOf r ≡ misfitFrom 0 (format head part .fields) (itemFrom (now (s .entry)) (length (format head part .fields) * i) i) ⌝ }
+{
+    match part {
+        Part::Head => header_misfit(s, head),
+        Part::Line => piece_misfit(s, head, i),
+        Part::Transverse => transverse_misfit(s, head, i),
+        Part::Effects => effect_misfit(s, head, i),
+        Part::Rows => row_misfit(s, head, i),
+        Part::Records => record_misfit(s, head, i),
+    }
+}
+
+// The lowest place at fault in a part, given as its own bytes.
+pub fn misfit(s: &[u8], head: Header, part: Part) -> Fault
+    requires { ⌜ Counted head × (4 * words head part ≤ length (now s)) ⌝ }
+    ensures { λ r. ⌜ placeOf r ≡ misfit (format head part) (now (s .entry)) ⌝ }
+{
+    for i in 0..sections::items(head, part) {
+        let fault = item_misfit(s, head, part, i);
+        if let Fault::At(j) = fault {
+            return Fault::At(sections::item_words(head, part) * i + j);
+        }
+    }
+    Fault::Clear
+}

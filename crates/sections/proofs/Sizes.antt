@@ -1,0 +1,73 @@
+-- The sizes of the parts of a header, and the bytes of a part.
+use mathlib.Core.Path.{_≡_, sym, _∙_, ap, ap₂, subst}
+use mathlib.Core.Option.{none}
+use mathlib.Core.List.{List}
+use Prim.Native.Nat.{ℕ, _+_, _-_, _*_, _/_, _≤_, _<_}
+use native.Mathlib.Nat.{div-lt-iff-lt-mul, mul-le-mul}
+use native.Mathlib.Omega.{arith}
+use lib.ListN.{take, drop, length}
+use Rattle.model.specs.Format.{headerOf, words, start, wordsDue, section, sectionOf}
+use Rattle.model.specs.declared.Header.{Header}
+use Rattle.model.specs.declared.Part.{Part}
+use Rattle.model.specs.declared.Part.the-variants.{Head, Line, Transverse, Effects, Rows, Records}
+use Rattle.model.specs.Refusals.{fault2}
+use Rattle.model.proofs.HeaderLimits.{header-fits}
+use Rattle.model.proofs.Sections.{section-length}
+use Rattle.model.proofs.Verdict.{part-inside}
+use Rattle.sections.specs.Sized.{Counted, Sized}
+
+-- a job without fault 2 has counts, and a spacing to divide by
+pub counted : (b : List ℕ) → fault2 b ≡ none → Counted (headerOf b)
+counted b e =
+    let f = header-fits b e in
+    record {
+      pieces = omega (arith, f .pieces .most);
+      spaced = omega (arith, f .spacing .least);
+      spacing = omega (arith, f .spacing .most);
+      width = omega (arith, f .wide .most);
+      effects = omega (arith, f .effects .most);
+      rows = omega (arith, f .rows .most);
+      records = omega (arith, f .records .most);
+    }
+
+-- the spaces of any counts are a count
+pub few-spaces : (w g : ℕ) → 0 < g → g ≤ 2147483648 → w ≤ 2147483648 → (w + g - 1) / g < 4294967296
+few-spaces w g p h k = let l : w + g - 1 < 4294967296 * g = omega arith in div-lt-iff-lt-mul p .1 l
+
+-- a product of bounded numbers
+pub product : {a b m n : ℕ} → a ≤ m → b ≤ n → a * b ≤ m * n
+product h k = mul-le-mul h k
+
+-- no part has more words than its counts allow
+pub few-words : (head : Header) (part : Part) → Counted head → {p : ℕ} → p < words head part → p ≤ 42949672960
+few-words head Head c h = omega arith
+few-words head Line c h = omega arith
+few-words head Transverse c h = let s = few-spaces (head .width) (head .spacing) (c .spaced) (c .spacing) (c .width) in omega arith
+few-words head Effects c h = omega arith
+few-words head Rows c h = omega arith
+few-words head Records c h = omega arith
+
+-- a part of a job from word m on, n words long, as the code cuts it
+pub cut : (b : List ℕ) {m n k l : ℕ} → m ≡ k → n ≡ l → take (4 * m + 4 * n - 4 * m) (drop (4 * m) b) ≡ take (4 * l) (drop (4 * k) b)
+cut b {m} {n} e f =
+    let g : 4 * m + 4 * n - 4 * m ≡ 4 * n = omega arith in
+    ap (λ (x : ℕ). take x (drop (4 * m) b)) g ∙ ap₂ (λ (x y : ℕ). take (4 * y) (drop (4 * x) b)) e f
+
+module _ {b : List ℕ} {head : Header} (z : Sized b head) where
+  -- its header's counts are counts
+  pub counts : Counted head
+  counts = subst Counted (sym (z .own)) (counted b (z .within))
+
+  -- a part is in the job
+  pub part-in : (part : Part) → 4 * (start head part + words head part) ≤ length b
+  part-in part =
+      subst (λ (h : Header). 4 * (start h part + words h part) ≤ length b) (sym (z .own))
+      (part-inside b (z .due ∙ ap (λ (h : Header). 4 * wordsDue h) (z .own)) part)
+
+  -- by the header at hand it is the job's own
+  pub own-section : (part : Part) → section b head part ≡ sectionOf b part
+  own-section part = ap (λ (h : Header). section b h part) (z .own)
+
+  -- it has all its bytes
+  pub part-length : (part : Part) → length (sectionOf b part) ≡ 4 * words (headerOf b) part
+  part-length part = section-length b (headerOf b) part (part-inside b (z .due ∙ ap (λ (h : Header). 4 * wordsDue h) (z .own)) part)
