@@ -23,7 +23,7 @@ use Rattle.job.specs.Sized.{Sized}
 use Rattle.job.proofs.Sizes.{part-length}
 use Rattle.job.proofs.Rulings.{is-sized}
 use Rattle.line.specs.LineFits.{LineFits}
-use Rattle.lanes.specs.Transverse.{TransverseFits}
+use Rattle.centres.specs.Transverse.{TransverseFits}
 use Rattle.rows.specs.Tables.{TablesFit}
 use Rattle.rows.specs.Governed.{StateFound}
 use Rattle.rows.proofs.Sections.{tables-fit}

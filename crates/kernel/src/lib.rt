@@ -3,7 +3,6 @@ use exact::Question;
 use job::header;
 use job::refusals;
 use job::sections;
-use lanes::centres;
 use lanes::traffic;
 use lanes::traffic::Effects;
 use line::effect;
