@@ -22,7 +22,7 @@ use Rattle.model.proofs.Accepted.{accepted-signed, accepted-spaced}
 use Rattle.job.specs.Sized.{Sized}
 use Rattle.job.proofs.Sizes.{part-length}
 use Rattle.job.proofs.Rulings.{is-sized}
-use Rattle.line.specs.LineFits.{LineFits}
+use Rattle.pair.specs.LineFits.{LineFits}
 use Rattle.centres.specs.Transverse.{TransverseFits}
 use Rattle.rows.specs.Tables.{TablesFit}
 use Rattle.rows.specs.Governed.{StateFound}
