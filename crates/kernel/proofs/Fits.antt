@@ -22,8 +22,8 @@ use Rattle.model.proofs.Accepted.{accepted-signed, accepted-spaced}
 use Rattle.sections.specs.Sized.{Sized}
 use Rattle.sections.proofs.Sizes.{part-length}
 use Rattle.job.proofs.Rulings.{is-sized}
-use Rattle.line.specs.LineFits.{LineFits}
-use Rattle.lanes.specs.Transverse.{TransverseFits}
+use Rattle.pair.specs.LineFits.{LineFits}
+use Rattle.centres.specs.Transverse.{TransverseFits}
 use Rattle.rows.specs.Tables.{TablesFit}
 use Rattle.rows.specs.Governed.{StateFound}
 use Rattle.rows.proofs.Sections.{tables-fit}

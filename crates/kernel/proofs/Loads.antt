@@ -23,9 +23,9 @@ use Rattle.model.specs.declared.Sense.the-variants.{Raising, Lowering}
 use Rattle.model.proofs.Signs.{line-zero}
 use Rattle.line.specs.Sought.{SoughtRight, EffectRight}
 use Rattle.line.specs.declared.effect.Sought.{Sought}
-use Rattle.lanes.specs.Spans.{AcrossRight, Spanned}
+use Rattle.centres.specs.Spans.{AcrossRight, Spanned}
+use Rattle.centres.specs.declared.Across.{Across}
 use Rattle.lanes.specs.Loadings.{LineEffectsFit, effectsOf}
-use Rattle.lanes.specs.declared.centres.Across.{Across}
 use Rattle.lanes.specs.declared.traffic.Effects.{Effects}
 use Rattle.kernel.specs.AccountParts.{Ready}
 

@@ -1,7 +1,6 @@
 // From a job's bytes to its account.
 use exact::Question;
 use job::refusals;
-use lanes::centres;
 use lanes::traffic;
 use lanes::traffic::Effects;
 use line::effect;

@@ -18,10 +18,10 @@ use Rattle.model.specs.declared.Sense.the-variants.{Raising, Lowering}
 use Rattle.model.proofs.Centre.{factor-down, bestInLane-split}
 use Rattle.model.proofs.Signs.{between-products}
 use Rattle.model.specs.Magnitudes.{transverseMost}
-use Rattle.lanes.specs.Spans.{CentreRight, SpanRight, SpanFits}
+use Rattle.centres.specs.Spans.{CentreRight, SpanRight, SpanFits}
+use Rattle.centres.specs.declared.Span.{Span}
 use Rattle.lanes.specs.Entries.{bestOf, centreFor, effectFor, bestEffect, ChosenRight}
 use Rattle.lanes.specs.Loadings.{LineEffectsFit, effectsOf, ElementRight}
-use Rattle.lanes.specs.declared.centres.Span.{Span}
 use Rattle.lanes.specs.declared.entries.Chosen.{Chosen}
 use Rattle.lanes.specs.declared.traffic.Effects.{Effects}
 

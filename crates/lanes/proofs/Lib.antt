@@ -1,11 +1,4 @@
-pub mod Ordinates
-pub mod Candidates
-pub mod Limits
 pub mod Filled
-pub mod Reduced
-pub mod SetNumbers
-pub mod Growth
-pub mod Best
 pub mod Elements
 pub mod Placements
 pub mod Given

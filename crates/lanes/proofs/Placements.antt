@@ -2,14 +2,14 @@
 use mathlib.Core.Path.{_≡_, refl, sym, _∙_, ap, ap₂, subst}
 use mathlib.Core.Logic.{_⊎_, inl, inr}
 use mathlib.Core.Bool.{Bool, true, false}
-use mathlib.Core.List.{List}
-use Prim.Native.Nat.{ℕ, _+_, _^_, _≤_, _<_}
-use native.Mathlib.Nat.{lt-of-lt-of-le}
+use mathlib.Core.List.{List, [], _∷_}
+use Prim.Native.Nat.{ℕ, zero, suc, _+_, _*_, _^_, _≤_, _<_}
+use native.Mathlib.Nat.{pow-suc, lt-of-lt-of-le}
 use native.Mathlib.Decide.{decLe}
 use native.Mathlib.Omega.{arith}
 use lib.IntN.{ℤ}
 use lib.Dec.{ltb, eqb}
-use lib.ListN.{getD}
+use lib.ListN.{length, getD}
 use lib.Pow.{pow-mono}
 use borrow.Author.Tests.{ltb-true, ltb-false, eqb-true, ne-eqb}
 use Rattle.exact.specs.Choice.{if_then_else_}
@@ -20,7 +20,7 @@ use Rattle.model.specs.Line.{HN, HO}
 use Rattle.model.specs.Lanes.{bit, lanes, unit}
 use Rattle.model.specs.Traffic.{laneEffect, bestSum, effectOf, trafficValue}
 use Rattle.model.specs.Arrangements.{OverloadLanes}
-use Rattle.model.specs.Answered.{entryBit, setOf, laneAt}
+use Rattle.model.specs.Answered.{emptyLane, entryBit, setOf, laneAt}
 use Rattle.model.specs.Placements.{EntryRight, entryIs}
 use Rattle.model.specs.declared.Entry.{Entry}
 use Rattle.model.specs.declared.Entry.the-variants.{Unloaded, Hn, Ho}
@@ -28,13 +28,13 @@ use Rattle.model.specs.declared.Lane.{Lane}
 use Rattle.model.specs.declared.Extreme.{Extreme}
 use Rattle.model.proofs.Sets.{setNumber, set-number, number-cong, number-with}
 use Rattle.model.proofs.Attained.{placed-lanes, placed-sum}
+use Rattle.centres.specs.declared.Across.{Across}
+use Rattle.sets.specs.Sets.{bestFor}
+use Rattle.sets.specs.declared.Loading.{Loading}
+use Rattle.sets.proofs.SetNumbers.{bit-past}
 use Rattle.lanes.specs.Entries.{noElement}
-use Rattle.lanes.specs.Sets.{bestFor}
 use Rattle.lanes.specs.Loadings.{laneBy, LanesPlaced, ElementRight, LoadingOf, TrafficPlaced}
-use Rattle.lanes.specs.declared.centres.Across.{Across}
 use Rattle.lanes.specs.declared.entries.Chosen.{Chosen}
-use Rattle.lanes.specs.declared.sets.Loading.{Loading}
-use Rattle.lanes.proofs.SetNumbers.{set-of, bit-past}
 
 -- ---- a lane by its two tests
 loaded-by : (hn over : Chosen) (a b : Bool) → entryBit (laneBy hn over a b .entry) ≡ (if (if a then true else b) then 1 else 0)
@@ -64,6 +64,22 @@ idle-by hn over false true e = absurd (subst IsUnloaded (sym e) tt)
 idle-by hn over false false e = refl
 
 -- ---- the number of the loaded lanes
+-- the lowest bit apart
+number-low : (n : ℕ) (test : ℕ → Bool) → setNumber (suc n) test ≡ (if test 0 then 1 else 0) + 2 * setNumber n (λ i. test (suc i))
+number-low zero test = omega arith
+number-low (suc n) test = ap (λ (r : ℕ). (if test (suc n) then 1 else 0) * 2 ^ suc n + r) (number-low n test) ∙ rw (pow-suc 2 n) (regroup (test (suc n)) (if test 0 then 1 else 0) (2 ^ n) (setNumber n (λ i. test (suc i))))
+  where
+    regroup : (t : Bool) (d p r : ℕ) → (if t then 1 else 0) * (p * 2) + (d + 2 * r) ≡ d + 2 * ((if t then 1 else 0) * p + r)
+    regroup true d p r = omega arith
+    regroup false d p r = omega arith
+
+-- the number of a list's loaded lanes
+set-of : (lanes : List Lane) (test : ℕ → Bool) → ((i : ℕ) → i < length lanes → entryBit (getD lanes i emptyLane .entry) ≡ (if test i then 1 else 0)) → setOf lanes ≡ setNumber (length lanes) test
+set-of [] test h = refl
+set-of (l ∷ rest) test h =
+    ap₂ (λ (a b : ℕ). a + 2 * b) (h 0 (omega arith)) (set-of rest (λ i. test (suc i)) (λ i p. h (suc i) (omega arith)))
+    ∙ sym (number-low (length rest) test)
+
 module _ (set o n : ℕ) (hn over : List Chosen) (all : List Lane) (small : set < 2 ^ n) (few : n ≤ 5) (apart : bit set o ≡ false) (lane : (o < n) ⊎ (o ≡ 5)) (placed : LanesPlaced set o n hn over all) where
   -- lane i is loaded
   abbrev loaded : ℕ → Bool

@@ -9,9 +9,9 @@ use Rattle.exact.specs.declared.Question.{Question}
 use Rattle.exact.specs.declared.Question.the-variants.{Greatest, Least}
 use Rattle.model.specs.declared.Sense.{Sense}
 use Rattle.model.specs.declared.Sense.the-variants.{Raising, Lowering}
-use Rattle.lanes.specs.Spans.{noSpan}
-use Rattle.lanes.specs.declared.centres.Centre.{Centre}
-use Rattle.lanes.specs.declared.centres.Span.{Span}
+use Rattle.centres.specs.Spans.{noSpan}
+use Rattle.centres.specs.declared.Centre.{Centre}
+use Rattle.centres.specs.declared.Span.{Span}
 use Rattle.lanes.specs.declared.entries.Chosen.{Chosen}
 use Rattle.lanes.specs.declared.entries.Elements.{Elements}
 

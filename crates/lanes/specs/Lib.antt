@@ -1,6 +1,2 @@
-pub mod Transverse
-pub mod Spans
-pub mod Candidates
 pub mod Entries
-pub mod Sets
 pub mod Loadings

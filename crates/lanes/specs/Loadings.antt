@@ -21,12 +21,12 @@ use Rattle.model.specs.declared.Sense.the-variants.{Raising, Lowering}
 use Rattle.model.specs.declared.Entry.the-variants.{Unloaded, Hn, Ho}
 use Rattle.model.specs.declared.Lane.{Lane}
 use Rattle.model.specs.declared.Extreme.{Extreme}
-use Rattle.lanes.specs.Spans.{Spanned}
+use Rattle.centres.specs.Spans.{Spanned}
+use Rattle.centres.specs.declared.Across.{Across}
+use Rattle.sets.specs.Sets.{LoadingRight}
+use Rattle.sets.specs.declared.Loading.{Loading}
 use Rattle.lanes.specs.Entries.{noElement}
-use Rattle.lanes.specs.Sets.{LoadingRight}
-use Rattle.lanes.specs.declared.centres.Across.{Across}
 use Rattle.lanes.specs.declared.entries.Chosen.{Chosen}
-use Rattle.lanes.specs.declared.sets.Loading.{Loading}
 use Rattle.lanes.specs.declared.traffic.Effects.{Effects}
 
 -- ---- line effects

@@ -1,6 +1,6 @@
 // The best entry of each lane for a kind and a question.
-use crate::centres::Centre;
-use crate::centres::Span;
+use centres::Centre;
+use centres::Span;
 use exact::Question;
 use model::Sense;
 ghost use mathlib.Core.Path.{_≡_};
@@ -9,7 +9,7 @@ ghost use lib.ListN.{getD};
 ghost use Rattle.exact.specs.Bounds.{Within};
 ghost use Rattle.exact.specs.Questions.{other};
 ghost use Rattle.model.specs.Magnitudes.{hoLineMost};
-ghost use Rattle.lanes.specs.Spans.{noSpan, SpanFits};
+ghost use Rattle.centres.specs.Spans.{noSpan, SpanFits};
 ghost use Rattle.lanes.specs.Entries.{bestOf, ChosenRight, AllChosen};
 
 // A lane's best element: its effect, its sense and its centre.

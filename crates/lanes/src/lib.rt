@@ -1,6 +1,3 @@
-// Lanes: their number and limits, the transverse ordinate at a centre, the best element of each, the best sets of lanes, traffic values.
-pub mod centres;
-mod count;
-pub mod entries;
-pub mod sets;
+// Lanes: the best element of each, and the traffic values with their placements.
+mod entries;
 pub mod traffic;

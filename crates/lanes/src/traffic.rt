@@ -1,14 +1,13 @@
 // The traffic values with their placements.
-use crate::centres::Across;
 use crate::entries;
 use crate::entries::Chosen;
-use crate::sets;
-use crate::sets::Loading;
+use centres::Across;
 use exact::Question;
 use model::Entry;
 use model::Extreme;
 use model::Lane;
 use model::Placement;
+use sets::Loading;
 ghost use mathlib.Core.Path.{_≡_};
 ghost use Prim.Native.Nat.{_*_, _≤_, _<_};
 ghost use Rattle.exact.specs.Bounds.{Within};
@@ -16,7 +15,7 @@ ghost use Rattle.model.specs.Job.{Job, Live, normal, overload};
 ghost use Rattle.model.specs.Line.{HN, HO};
 ghost use Rattle.model.specs.Traffic.{effectOf};
 ghost use Rattle.model.specs.Magnitudes.{hnLineMost, hoLineMost, sumMost, trafficMost};
-ghost use Rattle.lanes.specs.Spans.{AcrossFits, Spanned};
+ghost use Rattle.centres.specs.Spans.{AcrossFits, Spanned};
 ghost use Rattle.lanes.specs.Loadings.{LineEffectsFit, effectsOf, laneOf, LanesPlaced, LoadingOf, TrafficPlaced};
 
 // Raising and lowering line effects of a kind.

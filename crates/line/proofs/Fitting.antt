@@ -1,11 +1,9 @@
--- A line that fits has words and pieces that fit, and its loads are within their bounds.
+-- A line that fits has pieces that fit, and its loads are within their bounds.
 use Prim.Native.Nat.{ℕ, _+_, _*_, _≤_, _<_}
 use mathlib.Core.List.{List}
 use native.Mathlib.Omega.{arith}
-use Rattle.line.specs.LineFits.{WordFits, PieceFits, LineFits}
-
-pub fits-word : {s : List ℕ} {n : ℕ} → LineFits s n → (k : ℕ) → k < 2 * n → WordFits s k
-fits-word f k h = record { room = omega (arith, f .room); near = f .near k h }
+use Rattle.pair.specs.LineFits.{WordFits, LineFits}
+use Rattle.line.specs.PieceFits.{PieceFits}
 
 pub fits-piece : {s : List ℕ} {n : ℕ} → LineFits s n → (i : ℕ) → i < n → PieceFits s i
 fits-piece f i h = record { room = omega (arith, f .room); near = λ k a b. f .near k (omega arith) }

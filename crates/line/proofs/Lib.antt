@@ -1,4 +1,4 @@
 pub mod Fitting
 pub mod Marks
-pub mod Places
+pub mod Leading
 pub mod Results

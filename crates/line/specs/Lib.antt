@@ -1,3 +1,2 @@
-pub mod LineFits
-pub mod PairPlaces
+pub mod PieceFits
 pub mod Sought

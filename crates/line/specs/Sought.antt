@@ -12,7 +12,7 @@ use Rattle.model.specs.Line.{Kind, axleSpacing, sought, endSum, patchByte, load
 use Rattle.model.specs.Answered.{PositionRight}
 use Rattle.model.specs.declared.Sense.{Sense}
 use Rattle.model.specs.declared.Sense.the-variants.{Raising, Lowering}
-use Rattle.line.specs.PairPlaces.{placed, bestRank}
+use Rattle.pair.specs.PairPlaces.{placed, bestRank}
 use Rattle.line.specs.declared.effect.Sought.{Sought}
 use Rattle.line.specs.declared.effect.Senses.{Senses}
 

@@ -1,5 +1,4 @@
 // What each sense seeks of the line, and the line effect of an element by it.
-use crate::pair;
 use crate::pieces;
 use exact::Question;
 use model::Position;
@@ -14,7 +13,7 @@ ghost use Rattle.model.specs.Magnitudes.{pairMost, areaMost};
 ghost use Rattle.model.specs.Job.{InfluenceLine};
 ghost use Rattle.model.specs.Decode.{influenceLine};
 ghost use Rattle.model.specs.Line.{sought as soughtBy};
-ghost use Rattle.line.specs.LineFits.{LineFits};
+ghost use Rattle.pair.specs.LineFits.{LineFits};
 ghost use Rattle.line.specs.Sought.{Found, SoughtNear, SoughtRight, SensesRight};
 
 // Of a sense: twice the line's area over the pieces that it loads, in dm·U; its best pair of ordinates, and the pair's position.

@@ -5,27 +5,19 @@ ghost use mathlib.Core.List.{_++_};
 ghost use Prim.Native.Nat.{ℕ, _*_, _≤_};
 ghost use lib.ListN.{length, drop};
 ghost use Rattle.exact.specs.Bounds.{Within};
-ghost use Rattle.model.specs.Magnitudes.{ordinateMost, pairMost, areaMost};
-ghost use Rattle.model.specs.Words.{wordAt};
+ghost use Rattle.model.specs.Magnitudes.{pairMost, areaMost};
 ghost use Rattle.model.specs.Decode.{pieceAt, influenceLine};
 ghost use Rattle.model.specs.Line.{endSum, patchByte, patchBytes, loadedByte};
-ghost use Rattle.line.specs.LineFits.{WordFits, PieceFits, LineFits};
+ghost use Rattle.pair.specs.LineFits.{LineFits};
+ghost use Rattle.line.specs.PieceFits.{PieceFits};
 ghost use Rattle.line.specs.Sought.{loadedSum, doubleArea};
-
-// Word k of the line, an ordinate.
-pub(crate) fn ordinate(line: &[u8], k: usize) -> i32
-    requires { ⌜ WordFits (now line) k ⌝ }
-    ensures { λ r. ⌜ (r ≡ wordAt (now (line .entry)) k) × Within ordinateMost r ⌝ }
-{
-    words::word(line, k) as i32
-}
 
 // Piece i's ordinate sum a + b.
 fn end_sum(line: &[u8], i: usize) -> i32
     requires { ⌜ PieceFits (now line) i ⌝ }
     ensures { λ r. ⌜ (r ≡ endSum (pieceAt (now (line .entry)) i)) × Within pairMost r ⌝ }
 {
-    ordinate(line, model::PIECE_WORDS * i) + ordinate(line, model::PIECE_WORDS * i + 1)
+    pair::ordinate(line, model::PIECE_WORDS * i) + pair::ordinate(line, model::PIECE_WORDS * i + 1)
 }
 
 // Piece i's patch byte.

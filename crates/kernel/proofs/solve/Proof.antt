@@ -18,7 +18,7 @@ use Rattle.model.specs.declared.Header.{Header}
 use Rattle.model.specs.declared.Part.the-variants.{Line}
 use Rattle.model.proofs.Verdict.{clear, has-header, job-refuses, short-refused, long-accepted}
 use Rattle.job.specs.declared.refusals.Ruling.{Ruling}
-use Rattle.line.specs.LineFits.{LineFits}
+use Rattle.pair.specs.LineFits.{LineFits}
 use Rattle.line.proofs.Fitting.{fits-fewer}
 use Rattle.kernel.specs.AccountParts.{Ready, PartsRight}
 use Rattle.kernel.proofs.Fits.{sized, line-fits, signed, spaced}

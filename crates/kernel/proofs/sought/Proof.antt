@@ -3,7 +3,7 @@ use mathlib.Core.List.{List}
 use Prim.Native.Nat.{ℕ}
 use Rattle.model.specs.Decode.{decode, influenceLine}
 use Rattle.model.specs.Format.{headerOf}
-use Rattle.line.specs.LineFits.{LineFits}
+use Rattle.pair.specs.LineFits.{LineFits}
 use Rattle.line.specs.Sought.{SensesRight}
 use Rattle.model.specs.declared.Header.{Header}
 use Rattle.kernel.proofs.Fits.{sized, line-fits, line-limits}

@@ -9,8 +9,8 @@ use Rattle.model.specs.Job.{Job}
 use Rattle.model.specs.Decode.{decode}
 use Rattle.model.specs.Line.{HN, HO}
 use Rattle.model.specs.Magnitudes.{hnLineMost, hoLineMost}
-use Rattle.lanes.specs.Transverse.{TransverseFits}
-use Rattle.lanes.specs.Spans.{Spanned}
+use Rattle.centres.specs.Transverse.{TransverseFits}
+use Rattle.centres.specs.Spans.{Spanned}
 use Rattle.lanes.specs.Loadings.{LineEffectsFit, effectsOf}
 use Rattle.lanes.specs.declared.traffic.Effects.{Effects}
 use Rattle.kernel.proofs.Fits.{sized, across-fits, dynamic-limits, dynamic}

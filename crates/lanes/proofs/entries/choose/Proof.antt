@@ -9,10 +9,10 @@ use Rattle.exact.specs.declared.Question.{Question}
 use Rattle.exact.proofs.Extremes.{beats-yes, beats-no}
 use Rattle.exact.proofs.Held.{Kept, arg, known, retold, beats-held, times, times! }
 use Rattle.model.specs.Magnitudes.{transverseMost, hoLineMost, hoLaneMost}
-use Rattle.lanes.specs.declared.centres.Centre.{Centre}
-use Rattle.lanes.specs.declared.centres.Span.{Span}
+use Rattle.centres.specs.Spans.{SpanFits}
+use Rattle.centres.specs.declared.Centre.{Centre}
+use Rattle.centres.specs.declared.Span.{Span}
 use Rattle.lanes.specs.Entries.{bestOf}
-use Rattle.lanes.specs.Spans.{SpanFits}
 use Rattle.lanes.proofs.Elements.{near-of}
 use Rattle.lanes.proofs.entries.choose.Statement.{statement}
 use Rattle.lanes.proofs.entries.choose.Tie as tie

@@ -7,7 +7,7 @@ use lib.Signed.{mag}
 use mir.Syntax.{w64}
 use mir.Val.{toZ}
 use Rattle.exact.proofs.Held.{any, ok-fits}
-use Rattle.lanes.specs.Spans.{noSpan}
+use Rattle.centres.specs.Spans.{noSpan}
 use Rattle.lanes.specs.Entries.{noElement, bestEffect, ChosenRight}
 use Rattle.lanes.proofs.Filled.{FilledTo, filled-none, filled-more}
 use Rattle.lanes.proofs.entries.choose_all.Statement.{statement}

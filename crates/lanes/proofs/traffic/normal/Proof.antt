@@ -10,7 +10,7 @@ use Rattle.exact.proofs.Ranges.{count-none}
 use Rattle.model.specs.Job.{normal}
 use Rattle.model.specs.Line.{HN, HO}
 use Rattle.model.specs.Traffic.{laneEffect}
-use Rattle.lanes.specs.Sets.{valueAt}
+use Rattle.sets.specs.Sets.{valueAt}
 use Rattle.lanes.proofs.Given.{effects-near, values-fit, elements, effects, loading-of}
 use Rattle.lanes.proofs.traffic.normal.Statement.{statement}
 use Rattle.lanes.proofs.traffic.normal.Tie as tie

@@ -3,7 +3,7 @@ use native.Mathlib.Omega.{arith}
 use lib.Pow.{pow-mono}
 use Rattle.model.specs.Job.{overload}
 use Rattle.model.specs.Line.{HN, HO}
-use Rattle.lanes.specs.Sets.{valueAt}
+use Rattle.sets.specs.Sets.{valueAt}
 use Rattle.lanes.proofs.Given.{effects-near, values-fit, elements, effects, loading-of}
 use Rattle.lanes.proofs.traffic.overload.Statement.{statement}
 use Rattle.lanes.proofs.traffic.overload.Tie as tie

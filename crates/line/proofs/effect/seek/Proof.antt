@@ -13,9 +13,10 @@ use Rattle.model.specs.Decode.{influenceLine}
 use Rattle.model.specs.Line.{axleSpacing, sought}
 use Rattle.model.specs.declared.Sense.{Sense}
 use Rattle.model.specs.declared.Sense.the-variants.{Raising, Lowering}
-use Rattle.line.specs.PairPlaces.{placed, rankFor}
+use Rattle.pair.specs.PairPlaces.{placed, rankFor}
+use Rattle.pair.proofs.Places.{placed-near}
 use Rattle.line.specs.Sought.{doubleArea, Found}
-use Rattle.line.proofs.Places.{placed-near, best-natural}
+use Rattle.line.proofs.Leading.{best-natural}
 use borrow.Author.Needs.{needs}
 use Rattle.line.proofs.effect.seek.Statement.{statement}
 use Rattle.line.proofs.effect.seek.Tie as tie

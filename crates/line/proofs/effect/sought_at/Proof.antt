@@ -12,10 +12,10 @@ use Rattle.exact.proofs.Held.{told, Held, Kept, any, arg, known, nat, retold, m
 use Rattle.model.specs.Answered.{PositionRight}
 use Rattle.model.specs.Job.{InfluenceLine}
 use Rattle.model.specs.Line.{axleSpacing, sought, station, bestPair}
-use Rattle.line.specs.PairPlaces.{betterSide, PairStands, placed, rankOf}
+use Rattle.pair.specs.PairPlaces.{placed, rankOf}
+use Rattle.pair.specs.declared.Stand.{Stand}
 use Rattle.line.specs.Sought.{Found}
-use Rattle.line.specs.declared.pair.Stand.{Stand}
-use Rattle.line.proofs.Places.{Leads, leads, stands-position}
+use Rattle.line.proofs.Leading.{betterSide, PairStands, Leads, leads, stands-position}
 use borrow.Author.Needs.{needs}
 use Rattle.line.proofs.effect.sought_at.Statement.{statement}
 use Rattle.line.proofs.effect.sought_at.Tie as tie

@@ -1,0 +1,3 @@
+pub mod Ordinates
+pub mod Candidates
+pub mod Limits

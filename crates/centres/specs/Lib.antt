@@ -1,0 +1,3 @@
+pub mod Transverse
+pub mod Spans
+pub mod Candidates

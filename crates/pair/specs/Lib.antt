@@ -1,0 +1,2 @@
+pub mod LineFits
+pub mod PairPlaces

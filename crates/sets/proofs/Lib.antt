@@ -1,0 +1,4 @@
+pub mod Reduced
+pub mod SetNumbers
+pub mod Growth
+pub mod Best
