@@ -11,7 +11,7 @@ use Rattle.exact.specs.Questions.{beats, NoBetter}
 use Rattle.exact.specs.declared.Question.{Question}
 use Rattle.exact.proofs.Bridge.{by-test}
 use Rattle.exact.proofs.Extremes.{no-better-refl, no-better-trans, beats-yes, beats-no}
-use Rattle.model.specs.Magnitudes.{transverseMost}
+use Rattle.magnitudes.specs.Magnitudes.{transverseMost}
 use Rattle.centres.specs.Candidates.{ordinateAt, betterCentre, CentreStands, BestBefore}
 use Rattle.centres.specs.declared.Centre.{Centre}
 

@@ -9,8 +9,8 @@ use lib.IntN.{ℤ, pos, _+ℤ_, _-ℤ_, _*ℤ_}
 use Rattle.exact.specs.Bounds.{Within}
 use Rattle.exact.proofs.Bounds.{within-le, within-pos, within-add, within-mul}
 use Rattle.exact.proofs.Bridge.{subbed, ℕ→≡}
-use Rattle.model.specs.Words.{wordAt}
-use Rattle.model.specs.Magnitudes.{transverseMost}
+use Rattle.words.specs.Words.{wordAt}
+use Rattle.magnitudes.specs.Magnitudes.{transverseMost}
 use Rattle.centres.specs.Transverse.{OrdinatesTo}
 use Rattle.centres.specs.Candidates.{ordinateAt}
 

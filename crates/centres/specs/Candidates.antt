@@ -7,8 +7,8 @@ use Rattle.exact.specs.Bounds.{Within}
 use Rattle.exact.specs.Choice.{if_then_else_}
 use Rattle.exact.specs.Questions.{beats, NoBetter}
 use Rattle.exact.specs.declared.Question.{Question}
-use Rattle.model.specs.Words.{wordAt}
-use Rattle.model.specs.Magnitudes.{transverseMost}
+use Rattle.words.specs.Words.{wordAt}
+use Rattle.magnitudes.specs.Magnitudes.{transverseMost}
 use Rattle.centres.specs.declared.Centre.{Centre}
 
 -- the transverse ordinate of a section at a centre, the ordinates being d apart: thousandths times d

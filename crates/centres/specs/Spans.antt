@@ -9,7 +9,7 @@ use Rattle.exact.specs.declared.Question.{Question}
 use Rattle.exact.specs.declared.Question.the-variants.{Greatest, Least}
 use Rattle.model.specs.Job.{Carriageway, Job}
 use Rattle.model.specs.Lanes.{lanesOf, lowest, highest, transverseAt, bestOrdinate, lanes, unit, sumUnit, deckOf}
-use Rattle.model.specs.Magnitudes.{transverseMost}
+use Rattle.magnitudes.specs.Magnitudes.{transverseMost}
 use Rattle.centres.specs.declared.Centre.{Centre}
 use Rattle.centres.specs.declared.Span.{Span}
 use Rattle.centres.specs.declared.Across.{Across}

@@ -3,7 +3,7 @@ use Prim.Native.Nat.{ℕ, _+_, _*_, _≤_}
 use mathlib.Core.List.{List}
 use lib.ListN.{length}
 use Rattle.exact.specs.Bounds.{Within}
-use Rattle.model.specs.Words.{wordAt}
+use Rattle.words.specs.Words.{wordAt}
 use Rattle.model.specs.Format.{spaces}
 
 -- width and spacing are within their limits, and the section has its M + 1 ordinates, each of at most 1000

@@ -5,7 +5,7 @@ ghost use lib.ListN.{length, getD};
 ghost use Rattle.exact.specs.Bounds.{Within};
 ghost use Rattle.model.specs.Lanes.{laneCount};
 ghost use Rattle.model.specs.Decode.{carriageway};
-ghost use Rattle.model.specs.Magnitudes.{transverseMost};
+ghost use Rattle.magnitudes.specs.Magnitudes.{transverseMost};
 ghost use Rattle.centres.specs.Transverse.{TransverseFits, OrdinatesTo};
 ghost use Rattle.centres.specs.Spans.{SpanRight, noSpan, AcrossRight};
 ghost use Rattle.centres.specs.Candidates.{ordinateAt, betterCentre, BestBefore};

@@ -3,7 +3,7 @@ ghost use mathlib.Core.Path.{_≡_};
 ghost use Prim.Native.Nat.{_+_, _-_, _*_, _≤_, _<_};
 ghost use lib.ListN.{length};
 ghost use lib.Dec.{eqb};
-ghost use Rattle.model.specs.Words.{countAt};
+ghost use Rattle.words.specs.Words.{countAt};
 ghost use Rattle.model.specs.Format.{size, bytes};
 ghost use Rattle.model.specs.declared.Part.the-variants.{Records};
 ghost use Rattle.model.specs.Chains.{recordEffect, recordFactor, nextRecord, walk, namesTwice};

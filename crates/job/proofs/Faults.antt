@@ -4,7 +4,7 @@ use mathlib.Core.Option.{Option, none, some}
 use Prim.Native.Nat.{ℕ}
 use native.Mathlib.Omega.{arith}
 use Rattle.exact.specs.Choice.{orElse}
-use Rattle.model.specs.Fields.{moved}
+use Rattle.words.specs.Fields.{moved}
 
 -- they end in none
 pub or-nothing : (o : Option ℕ) → orElse o none ≡ o

@@ -10,13 +10,13 @@ use lib.ListN.{length}
 use borrow.Author.Tests.{eq-eqb, ne-eqb, not-true}
 use Rattle.exact.specs.Choice.{if_then_else_}
 use Rattle.exact.proofs.Bridge.{by-test}
-use Rattle.model.specs.Words.{countAt}
-use Rattle.model.specs.Fields.{moved, misfit}
+use Rattle.words.specs.Words.{countAt}
+use Rattle.words.specs.Fields.{moved, misfit}
 use Rattle.model.specs.Format.{headerOf, start, sectionOf}
 use Rattle.model.specs.Chains.{nextRecord, walk, returns}
 use Rattle.model.specs.Decode.{firstRecord}
 use Rattle.model.specs.Refusals.{rowTests, rowFault, chainNamesTwice, fault6, fault7, fault8}
-use Rattle.model.proofs.Fits.{moved-none, first-fits}
+use Rattle.words.proofs.Fits.{moved-none, first-fits}
 use Rattle.model.proofs.TableLimits.{row-fits, record-fits, no-return}
 use Rattle.model.proofs.HeaderLimits.{header-fits}
 use Rattle.model.proofs.Chains.{Bounded, returns-long, chain-ends, names-none}

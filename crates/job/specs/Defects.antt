@@ -3,7 +3,7 @@ use Prim.Native.Nat.{ℕ, _+_}
 use mathlib.Core.Bool.{Bool, not}
 use mathlib.Core.Option.{Option}
 use mathlib.Core.List.{List}
-use Rattle.model.specs.Fields.{misfit}
+use Rattle.words.specs.Fields.{misfit}
 use Rattle.model.specs.Format.{headerOf, sectionOf}
 use Rattle.model.specs.Chains.{returns, namesTwice}
 use Rattle.model.specs.Decode.{firstRecord}

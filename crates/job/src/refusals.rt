@@ -4,7 +4,7 @@ ghost use mathlib.Core.Option.{none, some};
 ghost use Prim.Native.Nat.{ℕ, _≤_};
 ghost use lib.ListN.{length};
 ghost use Rattle.exact.specs.Choice.{orElse};
-ghost use Rattle.model.specs.Fields.{moved};
+ghost use Rattle.words.specs.Fields.{moved};
 ghost use Rattle.model.specs.Format.{headerOf, bytes, start, fault};
 ghost use Rattle.model.specs.Refusals.{fault1, fault2, fault3, fault4, fault5, fault6, rowFault, jobVerdict};
 ghost use Rattle.model.specs.declared.Part.the-variants.{Head, Line};

@@ -6,7 +6,7 @@ use mir.Syntax.{w64}
 use mir.Val.{toZ, ofZ}
 use Rattle.exact.specs.Bounds.{Within}
 use Rattle.exact.proofs.Held.{known, told}
-use Rattle.model.specs.Magnitudes.{trafficMost}
+use Rattle.magnitudes.specs.Magnitudes.{trafficMost}
 use Rattle.rows.specs.declared.state.LiveBoth.{LiveBoth}
 use Rattle.rows.specs.declared.state.LiveValues.{LiveValues}
 

@@ -6,7 +6,7 @@ use Prim.Native.Nat.{ℕ}
 use Rattle.exact.specs.Bounds.{Within}
 use Rattle.exact.specs.declared.Question.{Question}
 use Rattle.exact.specs.declared.Question.the-variants.{Greatest, Least}
-use Rattle.model.specs.Magnitudes.{trafficMost}
+use Rattle.magnitudes.specs.Magnitudes.{trafficMost}
 use Rattle.model.specs.Job.{Job, Limit, Live, normal, overload, HasTraffic}
 use Rattle.model.specs.Format.{headerOf}
 use Rattle.model.specs.Refusals.{jobVerdict}

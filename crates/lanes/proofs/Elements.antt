@@ -17,7 +17,7 @@ use Rattle.model.specs.declared.Sense.{Sense}
 use Rattle.model.specs.declared.Sense.the-variants.{Raising, Lowering}
 use Rattle.model.proofs.Centre.{factor-down, bestInLane-split}
 use Rattle.model.proofs.Signs.{between-products}
-use Rattle.model.specs.Magnitudes.{transverseMost}
+use Rattle.magnitudes.specs.Magnitudes.{transverseMost}
 use Rattle.centres.specs.Spans.{CentreRight, SpanRight, SpanFits}
 use Rattle.centres.specs.declared.Span.{Span}
 use Rattle.lanes.specs.Entries.{bestOf, centreFor, effectFor, bestEffect, ChosenRight}

@@ -21,7 +21,7 @@ use Rattle.model.specs.Job.{Job, Live, noTraffic, normal, overload}
 use Rattle.model.specs.Lanes.{bit, without, reduction}
 use Rattle.model.specs.Line.{Kind, HN, HO}
 use Rattle.model.specs.Traffic.{setSum, bestNormal, bestOverload, laneEffect}
-use Rattle.model.specs.Magnitudes.{transverseMost, hoLineMost}
+use Rattle.magnitudes.specs.Magnitudes.{transverseMost, hoLineMost}
 use Rattle.centres.specs.Spans.{AcrossFits, Spanned, noSpan}
 use Rattle.centres.specs.declared.Across.{Across}
 use Rattle.sets.specs.Sets.{valueAt, ValuesFit, bestFor, LoadingRight}

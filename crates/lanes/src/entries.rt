@@ -8,7 +8,7 @@ ghost use Prim.Native.Nat.{ℕ, _≤_, _<_};
 ghost use lib.ListN.{getD};
 ghost use Rattle.exact.specs.Bounds.{Within};
 ghost use Rattle.exact.specs.Questions.{other};
-ghost use Rattle.model.specs.Magnitudes.{hoLineMost};
+ghost use Rattle.magnitudes.specs.Magnitudes.{hoLineMost};
 ghost use Rattle.centres.specs.Spans.{noSpan, SpanFits};
 ghost use Rattle.lanes.specs.Entries.{bestOf, ChosenRight, AllChosen};
 

@@ -14,7 +14,7 @@ ghost use Rattle.exact.specs.Bounds.{Within};
 ghost use Rattle.model.specs.Job.{Job, Live, normal, overload};
 ghost use Rattle.model.specs.Line.{HN, HO};
 ghost use Rattle.model.specs.Traffic.{effectOf};
-ghost use Rattle.model.specs.Magnitudes.{hnLineMost, hoLineMost, sumMost, trafficMost};
+ghost use Rattle.magnitudes.specs.Magnitudes.{hnLineMost, hoLineMost, sumMost, trafficMost};
 ghost use Rattle.centres.specs.Spans.{AcrossFits, Spanned};
 ghost use Rattle.lanes.specs.Loadings.{LineEffectsFit, effectsOf, laneOf, LanesPlaced, LoadingOf, TrafficPlaced};
 

@@ -10,8 +10,8 @@ use lib.IntN.{pos}
 use lib.ListN.{length}
 use Rattle.exact.specs.Choice.{if_then_else_}
 use Rattle.exact.proofs.Bridge.{by-test}
-use Rattle.model.specs.Words.{wordAt}
-use Rattle.model.specs.Fields.{moved, itemMisfit, misfit}
+use Rattle.words.specs.Words.{wordAt}
+use Rattle.words.specs.Fields.{moved, itemMisfit, misfit}
 use Rattle.model.specs.Format.{format}
 use Rattle.model.specs.Refusals.{crosses, signs}
 use Rattle.model.specs.declared.Header.{Header}

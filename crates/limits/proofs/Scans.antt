@@ -5,7 +5,7 @@ use Prim.Native.Nat.{ℕ, zero, suc, _+_, _*_, _≤_, _<_}
 use native.Mathlib.Decide.{decLe}
 use native.Mathlib.Omega.{arith}
 use Rattle.exact.specs.Choice.{orElse}
-use Rattle.model.specs.Fields.{firstAnswer}
+use Rattle.words.specs.Fields.{firstAnswer}
 
 pub answer-none : (i n : ℕ) (f : ℕ → Option ℕ) → ((k : ℕ) → i ≤ k → k < i + n → f k ≡ none) → firstAnswer i n f ≡ none
 answer-none i zero f h = refl

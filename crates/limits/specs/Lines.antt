@@ -6,7 +6,7 @@ use Prim.Native.Nat.{ℕ, _+_, _*_, _/_, _<_}
 use lib.IntN.{ℤ, negℤ}
 use lib.ListN.{length}
 use Rattle.exact.specs.Choice.{between}
-use Rattle.model.specs.Words.{wordAt}
+use Rattle.words.specs.Words.{wordAt}
 use Rattle.model.specs.Format.{size}
 use Rattle.model.specs.declared.Part.the-variants.{Line}
 use Rattle.model.specs.Refusals.{crosses}

@@ -7,7 +7,7 @@ ghost use lib.ListN.{length};
 ghost use lib.Signed.{ltZ};
 ghost use Rattle.exact.specs.Bounds.{Within};
 ghost use Rattle.exact.specs.Choice.{if_then_else_, between};
-ghost use Rattle.model.specs.Fields.{misfit};
+ghost use Rattle.words.specs.Fields.{misfit};
 ghost use Rattle.model.specs.Format.{bytes};
 ghost use Rattle.model.specs.declared.Part.the-variants.{Line};
 ghost use Rattle.model.specs.Refusals.{crosses, signs};

@@ -12,7 +12,7 @@ use Rattle.exact.proofs.Bridge.{ℕ→≤, subbed, up-neg, dn-neg}
 use Rattle.exact.proofs.Extremes.{no-better-trans, no-better-antisym, better-left, better-right, better-least, extreme-bounds, extreme-least, Met, extreme-met}
 use Rattle.exact.proofs.Order.{pos-nonneg}
 use Rattle.exact.proofs.Ring.{_⊕_, _⊗_, lit, _≼_, _⇒_, linear}
-use Rattle.model.specs.Magnitudes.{pairMost}
+use Rattle.magnitudes.specs.Magnitudes.{pairMost}
 use Rattle.model.specs.Job.{InfluenceLine}
 use Rattle.model.specs.Line.{axleSpacing, station, bestPair}
 use Rattle.model.specs.Answered.{PositionRight}

@@ -6,7 +6,7 @@ use Rattle.exact.specs.Bounds.{Within}
 use Rattle.exact.specs.Ranges.{sumTo}
 use Rattle.exact.proofs.Ranges.{sum-scale}
 use Rattle.exact.proofs.Ring.{_⊗_, _≐_, solve}
-use Rattle.model.specs.Magnitudes.{lineMost}
+use Rattle.magnitudes.specs.Magnitudes.{lineMost}
 use Rattle.model.specs.Job.{InfluenceLine}
 use Rattle.model.specs.Line.{Kind, axle, uniform, pieceLoad, uniformPart, bestPair, lineEffect}
 use Rattle.model.specs.declared.Sense.{Sense}

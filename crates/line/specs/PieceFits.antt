@@ -5,8 +5,8 @@ use lib.ListN.{length}
 use Rattle.exact.specs.Bounds.{Within}
 use Rattle.model.specs.Format.{size, bytes}
 use Rattle.model.specs.declared.Part.the-variants.{Line}
-use Rattle.model.specs.Magnitudes.{ordinateMost}
-use Rattle.model.specs.Words.{wordAt}
+use Rattle.magnitudes.specs.Magnitudes.{ordinateMost}
+use Rattle.words.specs.Words.{wordAt}
 
 -- piece i's two ordinates are there and within their limits
 pub record PieceFits (s : List ℕ) (i : ℕ) : Type 0 where

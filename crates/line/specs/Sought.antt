@@ -6,7 +6,7 @@ use lib.IntN.{ℤ, pos, _*ℤ_}
 use Rattle.exact.specs.Choice.{if_then_else_}
 use Rattle.exact.specs.Bounds.{Within}
 use Rattle.exact.specs.Ranges.{sumTo}
-use Rattle.model.specs.Magnitudes.{pairMost, areaMost, lineMost}
+use Rattle.magnitudes.specs.Magnitudes.{pairMost, areaMost, lineMost}
 use Rattle.model.specs.Job.{Piece, InfluenceLine}
 use Rattle.model.specs.Line.{Kind, axleSpacing, sought, endSum, patchByte, loadedByte, bestPair, lineEffect}
 use Rattle.model.specs.Answered.{PositionRight}

@@ -9,7 +9,7 @@ ghost use lib.IntN.{pos, _+ℤ_, _*ℤ_};
 ghost use lib.Signed.{_≤ℤ_};
 ghost use Rattle.exact.specs.Parts.{up};
 ghost use Rattle.exact.specs.Bounds.{Within};
-ghost use Rattle.model.specs.Magnitudes.{pairMost, areaMost};
+ghost use Rattle.magnitudes.specs.Magnitudes.{pairMost, areaMost};
 ghost use Rattle.model.specs.Job.{InfluenceLine};
 ghost use Rattle.model.specs.Decode.{influenceLine};
 ghost use Rattle.model.specs.Line.{sought as soughtBy};

@@ -5,7 +5,7 @@ ghost use mathlib.Core.List.{_++_};
 ghost use Prim.Native.Nat.{ℕ, _*_, _≤_};
 ghost use lib.ListN.{length, drop};
 ghost use Rattle.exact.specs.Bounds.{Within};
-ghost use Rattle.model.specs.Magnitudes.{pairMost, areaMost};
+ghost use Rattle.magnitudes.specs.Magnitudes.{pairMost, areaMost};
 ghost use Rattle.model.specs.Decode.{pieceAt, influenceLine};
 ghost use Rattle.model.specs.Line.{endSum, patchByte, patchBytes, loadedByte};
 ghost use Rattle.pair.specs.LineFits.{LineFits};

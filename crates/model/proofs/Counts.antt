@@ -12,7 +12,7 @@ use Rattle.exact.specs.Choice.{between}
 use Rattle.exact.specs.Parts.{up}
 use Rattle.exact.proofs.Bridge.{by-test, dn-neg, ≤→ℕ}
 use Rattle.exact.proofs.Tests.{leZ-true}
-use Rattle.model.specs.Fields.{Item, oneOf}
+use Rattle.words.specs.Fields.{Item, oneOf}
 use Rattle.model.specs.Format.{is}
 
 -- a word that is a number from lo to hi

@@ -4,8 +4,8 @@ use mathlib.Core.List.{map}
 use lib.Count.{ones, onesIn}
 use Rattle.exact.specs.Choice.{minℤ, maxℤ}
 use Rattle.exact.specs.Rounding.{floorDiv, ceilDiv}
-use Rattle.model.specs.Words.{signed32, wordAt}
-use Rattle.model.specs.Fields.{misfit}
+use Rattle.words.specs.Words.{signed32, wordAt}
+use Rattle.words.specs.Fields.{misfit}
 use Rattle.model.specs.Format.{section}
 use Rattle.model.specs.Chains.{chainFrom, walk, repeats, returns, namesTwice}
 use Rattle.model.specs.Dynamic.{dynamicFactor}

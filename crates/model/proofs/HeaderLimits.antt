@@ -13,15 +13,15 @@ use Rattle.exact.specs.Choice.{if_then_else_, between}
 use Rattle.exact.specs.Parts.{up}
 use Rattle.exact.proofs.Bridge.{by-test, ≤→ℕ}
 use Rattle.exact.proofs.Tests.{leZ-true}
-use Rattle.model.specs.Words.{wordAt, countAt}
-use Rattle.model.specs.Fields.{free, itemFrom}
+use Rattle.words.specs.Words.{wordAt, countAt}
+use Rattle.words.specs.Fields.{free, itemFrom}
 use Rattle.model.specs.Format.{headerOf, is, dynamicFits, format, sectionOf}
 use Rattle.model.specs.Dynamic.{dynamicFactor}
 use Rattle.model.specs.Refusals.{fault2}
 use Rattle.model.specs.declared.Part.the-variants.{Head}
 use Rattle.model.proofs.Counts.{Count, between-count, OneOf, one-of}
 use Rattle.model.proofs.Sections.{section-word}
-use Rattle.model.proofs.Fits.{or-none, moved-none, fits}
+use Rattle.words.proofs.Fits.{or-none, moved-none, fits}
 
 -- words 5 and 6: a kind with its value
 pub data DynamicRight (kind value : ℕ) : Type 0 where

@@ -3,7 +3,6 @@ pub mod Pigeonhole
 pub mod Chains
 pub mod Determined
 pub mod Sections
-pub mod Fits
 pub mod Counts
 pub mod Verdict
 pub mod HeaderLimits

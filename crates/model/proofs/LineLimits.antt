@@ -12,15 +12,15 @@ use borrow.Author.Tests.{not-true}
 use Rattle.exact.specs.Bounds.{Within}
 use Rattle.exact.proofs.Order.{lt→le}
 use Rattle.exact.proofs.Tests.{ltZ-true, ltZ-false}
-use Rattle.model.specs.Words.{wordAt}
+use Rattle.words.specs.Words.{wordAt}
 use Rattle.model.specs.Format.{headerOf, format, words, sectionOf}
 use Rattle.model.specs.Job.{Piece, InfluenceLine}
 use Rattle.model.specs.Decode.{decode}
-use Rattle.model.specs.Fields.{misfit}
+use Rattle.words.specs.Fields.{misfit}
 use Rattle.model.specs.Refusals.{crosses, signs, fault4, fault5}
 use Rattle.model.specs.declared.Part.the-variants.{Line, Transverse}
 use Rattle.model.proofs.Counts.{between-within}
-use Rattle.model.proofs.Fits.{or-none, moved-none, fits, first-fits}
+use Rattle.words.proofs.Fits.{or-none, moved-none, fits, first-fits}
 
 -- ---- 4: ordinates
 module _ (b : List ℕ) (clear : fault4 b ≡ none) where

@@ -9,15 +9,15 @@ use native.Mathlib.Omega.{arith}
 use lib.Dec.{leb, eqb}
 use lib.ListN.{length}
 use Rattle.exact.specs.Choice.{orElse}
-use Rattle.model.specs.Fields.{Layout, wordsIn, moved, misfit}
-use Rattle.model.specs.Words.{wordAt}
+use Rattle.words.specs.Fields.{Layout, wordsIn, moved, misfit}
+use Rattle.words.specs.Words.{wordAt}
 use Rattle.model.specs.Format.{headerOf, is, spaces, format, words, start, wordsDue, sectionOf}
 use Rattle.model.specs.Refusals.{Refusal, _finds_, unless, signs, rowTests, chainReturns, chainNamesTwice, fault1, fault2, fault3, fault4, fault5, fault6, fault7, fault8, fault9, refuse, firstRefusal, jobTests, jobVerdict, verdict}
 use Rattle.model.specs.Answered.{Answered, refused, accepted}
 use Rattle.model.specs.declared.Answer.{Answer}
 use Rattle.model.specs.declared.Part.{Part}
 use Rattle.model.specs.declared.Part.the-variants.{Head, Line, Transverse, Effects, Rows, Records}
-use Rattle.model.proofs.Fits.{moved-below, below}
+use Rattle.words.proofs.Fits.{moved-below, below}
 use Rattle.model.proofs.Verdict.{clear}
 use Rattle.model.proofs.HeaderLimits.{header-fits}
 

@@ -1,19 +1,14 @@
 -- A part of a job within it: its bytes and its words.
 use mathlib.Core.Path.{_≡_, refl, _∙_, ap}
 use mathlib.Core.List.{List}
-use Prim.Native.Nat.{ℕ, suc, _+_, _*_, _≤_, _<_}
-use native.Mathlib.Nat.{mul-le-mul, mul-suc, le-refl}
+use Prim.Native.Nat.{ℕ, _+_, _*_, _≤_, _<_}
 use native.Mathlib.Omega.{arith}
 use lib.ListN.{take, drop, length, getD, length-take, length-drop}
 use lib.Seq.{getD-take, getD-drop}
-use Rattle.model.specs.Words.{byteAt, wordAt}
+use Rattle.words.specs.Words.{byteAt, wordAt}
 use Rattle.model.specs.Format.{words, start, section}
 use Rattle.model.specs.declared.Header.{Header}
 use Rattle.model.specs.declared.Part.{Part}
-
--- item i of n items of k words is among them
-pub item-inside : (k i n : ℕ) → i < n → k * i + k ≤ k * n
-item-inside k i n h = let l : k * suc i ≤ k * n = mul-le-mul (le-refl k) h in rw (mul-suc k i) at l
 
 module _ (b : List ℕ) (head : Header) (part : Part) where
   -- it has all its bytes

@@ -11,14 +11,14 @@ use Rattle.exact.specs.Bounds.{Within}
 use Rattle.exact.specs.Choice.{if_then_else_, between}
 use Rattle.exact.specs.Parts.{up}
 use Rattle.exact.proofs.Bridge.{by-test}
-use Rattle.model.specs.Words.{wordAt, countAt}
-use Rattle.model.specs.Fields.{misfit}
+use Rattle.words.specs.Words.{wordAt, countAt}
+use Rattle.words.specs.Fields.{misfit}
 use Rattle.model.specs.Format.{headerOf, is, format, sectionOf}
 use Rattle.model.specs.Refusals.{rowTests, chainReturns, chainNamesTwice, fault6, fault7, fault8}
 use Rattle.model.specs.declared.Header.{Header}
 use Rattle.model.specs.declared.Part.the-variants.{Effects, Rows, Records}
 use Rattle.model.proofs.Counts.{Count, between-count, between-within}
-use Rattle.model.proofs.Fits.{or-none, moved-none, fits, first-fits}
+use Rattle.words.proofs.Fits.{or-none, moved-none, fits, first-fits}
 
 -- ---- 6: effects, rows and records, item i of each section counting from 0
 pub record EffectFits (s : List ℕ) (i : ℕ) : Type 0 where

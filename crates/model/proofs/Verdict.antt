@@ -9,7 +9,7 @@ use lib.Dec.{eqb, leb}
 use lib.ListN.{length, getD}
 use borrow.Author.Tests.{eqb-true, leb-true, le-leb, lt-leb}
 use Rattle.exact.specs.Choice.{orElse}
-use Rattle.model.specs.Words.{wordAt}
+use Rattle.words.specs.Words.{wordAt}
 use Rattle.model.specs.Format.{headerOf, is, words, start, wordsDue}
 use Rattle.model.specs.Refusals.{Refusal, Test, _finds_, firstRefusal, jobTests, unless, fault1, fault2, fault3, fault4, fault5, fault6, fault7, fault8, fault9, refuse, jobVerdict, verdict}
 use Rattle.model.specs.declared.Part.{Part}

@@ -1,18 +1,10 @@
 -- "The job's words" as one table: for an edition, each part of a job with the number of its items and the limits of their words.
 use Prim.Native.Nat.{ℕ, _+_, _-_, _*_, _/_}
-use mathlib.Core.Bool.{Bool}
-use mathlib.Core.List.{List, [], _∷_}
-use mathlib.Core.Option.{Option, none}
-use lib.IntN.{ℤ, pos, _*ℤ_}
-use lib.Signed.{leZ}
-use lib.ListN.{length, take, drop}
+use mathlib.Core.{Bool.Bool, List.List, List.[], List._∷_, Option.Option, Option.none}
+use lib.{IntN.ℤ, IntN.pos, IntN._*ℤ_, Signed.leZ, ListN.length, ListN.take, ListN.drop}
 use Rattle.exact.specs.Choice.{if_then_else_, between, orElse}
-use Rattle.model.specs.Words.{countAt}
-use Rattle.model.specs.Fields.{Field, Layout, free, range, within, oneOf, given, both, _of_, wordsIn, moved, misfit}
-use Rattle.model.specs.declared.Edition.the-variants.{First}
-use Rattle.model.specs.declared.Header.{Header}
-use Rattle.model.specs.declared.Part.{Part}
-use Rattle.model.specs.declared.Part.the-variants.{Head, Line, Transverse, Effects, Rows, Records}
+use Rattle.words.specs.{Words.countAt, Fields.Field, Fields.Layout, Fields.free, Fields.range, Fields.within, Fields.oneOf, Fields.given, Fields.both, Fields._of_, Fields.wordsIn, Fields.moved, Fields.misfit}
+use Rattle.model.specs.declared.{Edition.the-variants.First, Header.Header, Part.Part, Part.the-variants.Head, Part.the-variants.Line, Part.the-variants.Transverse, Part.the-variants.Effects, Part.the-variants.Rows, Part.the-variants.Records}
 
 -- the header, read once
 abbrev pub headerOf : List ℕ → Header

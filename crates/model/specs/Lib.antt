@@ -1,13 +1,10 @@
-pub mod Words
 pub mod Job
-pub mod Fields
 pub mod Format
 pub mod Chains
 pub mod Dynamic
 pub mod Decode
 pub mod Refusals
 pub mod Line
-pub mod Magnitudes
 pub mod Lanes
 pub mod Traffic
 pub mod Rows

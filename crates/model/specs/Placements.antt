@@ -1,20 +1,14 @@
 -- A placement by its lanes' entries: what each gives, and their sum.
-use mathlib.Core.Path.{_≡_}
-use mathlib.Core.Bool.{Bool, true, false}
+use mathlib.Core.{Path._≡_, Bool.Bool, Bool.true, Bool.false}
 use Prim.Native.Nat.{ℕ, _≤_}
 use lib.IntN.{ℤ, pos, _+ℤ_, _*ℤ_}
-use Rattle.exact.specs.Choice.{if_then_else_}
-use Rattle.exact.specs.Ranges.{sumTo, countTo}
-use Rattle.exact.specs.declared.Question.{Question}
+use Rattle.exact.specs.{Choice.if_then_else_, Ranges.sumTo, Ranges.countTo, declared.Question.Question}
 use Rattle.model.specs.Job.{Job}
 use Rattle.model.specs.Line.{Kind, HN, HO, lineEffect}
 use Rattle.model.specs.Lanes.{lanes, unit, lowestIn, highestIn, ordinateIn, twentieths}
 use Rattle.model.specs.Traffic.{laneEffect}
 use Rattle.model.specs.Answered.{laneAt}
-use Rattle.model.specs.declared.Sense.{Sense}
-use Rattle.model.specs.declared.Entry.{Entry}
-use Rattle.model.specs.declared.Entry.the-variants.{Unloaded, Hn, Ho}
-use Rattle.model.specs.declared.Placement.{Placement}
+use Rattle.model.specs.declared.{Sense.Sense, Entry.Entry, Entry.the-variants.Unloaded, Entry.the-variants.Hn, Entry.the-variants.Ho, Placement.Placement}
 
 -- an element in lane i, at a centre in units within the lane's limits, where its sense's line effect gives the lane's best
 pub record BestCentre (q : Question) (job : Job) (kind : Kind) (sense : Sense) (i centre : ℕ) : Type 0 where

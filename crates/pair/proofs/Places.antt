@@ -20,7 +20,7 @@ use Rattle.exact.proofs.Bounds.{within-pos, within-add}
 use Rattle.exact.proofs.Bridge.{ℕ→≤, ≤→ℕ, ℕ→≡, added, subbed}
 use Rattle.exact.proofs.Extremes.{no-better-trans, no-better-antisym, extreme-step, extreme-bounds, extreme-least}
 use Rattle.exact.proofs.Ring.{_⊕_, _⊝_, _⊗_, lit, _≐_, solve}
-use Rattle.model.specs.Words.{wordAt}
+use Rattle.words.specs.Words.{wordAt}
 use Rattle.model.specs.Job.{InfluenceLine}
 use Rattle.model.specs.Line.{axleSpacing, along, ordinate, pair, station}
 use Rattle.model.specs.Decode.{influenceLine}

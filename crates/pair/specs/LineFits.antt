@@ -5,8 +5,8 @@ use lib.ListN.{length}
 use Rattle.exact.specs.Bounds.{Within}
 use Rattle.model.specs.Format.{size, bytes}
 use Rattle.model.specs.declared.Part.the-variants.{Line}
-use Rattle.model.specs.Magnitudes.{piecesMost, ordinateMost}
-use Rattle.model.specs.Words.{wordAt}
+use Rattle.magnitudes.specs.Magnitudes.{piecesMost, ordinateMost}
+use Rattle.words.specs.Words.{wordAt}
 
 -- word k is there and within its limits
 pub record WordFits (s : List ℕ) (k : ℕ) : Type 0 where

@@ -8,7 +8,7 @@ use Rattle.exact.specs.Choice.{if_then_else_}
 use Rattle.exact.specs.Questions.{extreme}
 use Rattle.exact.specs.declared.Question.{Question}
 use Rattle.exact.specs.declared.Question.the-variants.{Greatest, Least}
-use Rattle.model.specs.Words.{wordAt}
+use Rattle.words.specs.Words.{wordAt}
 use Rattle.model.specs.Job.{InfluenceLine}
 use Rattle.model.specs.Line.{pair, station}
 use Rattle.model.specs.declared.Side.{Side}

@@ -20,7 +20,7 @@ use Rattle.exact.proofs.Bounds.{within-add, within-le, within-pos}
 use Rattle.exact.proofs.Bridge.{by-test}
 use Rattle.exact.proofs.Extremes.{better-first, better-second}
 use Rattle.exact.proofs.Ring.{_⊕_, lit, _≐_, solve}
-use Rattle.model.specs.Magnitudes.{shareMost, chainMost}
+use Rattle.magnitudes.specs.Magnitudes.{shareMost, chainMost}
 use Rattle.model.specs.Chains.{chainFrom, nextRecord}
 use Rattle.model.specs.Decode.{termsFrom}
 use Rattle.model.specs.Job.{Effect, Term}

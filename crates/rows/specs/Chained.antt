@@ -10,7 +10,7 @@ use Rattle.exact.specs.Choice.{if_then_else_}
 use Rattle.exact.specs.Questions.{beats}
 use Rattle.exact.specs.declared.Question.{Question}
 use Rattle.exact.specs.declared.Question.the-variants.{Greatest, Least}
-use Rattle.model.specs.Magnitudes.{shareMost, chainMost}
+use Rattle.magnitudes.specs.Magnitudes.{shareMost, chainMost}
 use Rattle.model.specs.Chains.{recordEffect, recordFactor}
 use Rattle.model.specs.Job.{Effect, Term}
 use Rattle.model.specs.Rows.{share, chainValue, MayOmit, bestChain}

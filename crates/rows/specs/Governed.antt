@@ -10,7 +10,7 @@ use Rattle.exact.specs.Choice.{if_then_else_}
 use Rattle.exact.specs.Questions.{beats}
 use Rattle.exact.specs.declared.Question.{Question}
 use Rattle.exact.specs.declared.Question.the-variants.{Greatest, Least}
-use Rattle.model.specs.Magnitudes.{trafficMost}
+use Rattle.magnitudes.specs.Magnitudes.{trafficMost}
 use Rattle.model.specs.Job.{Effect, Limit, service, ultimate, Live, noTraffic, normal, overload, Row}
 use Rattle.model.specs.Rows.{rowValue, MayOmit, bestRow, Governs, governing}
 use Rattle.model.specs.Answered.{omits}

@@ -5,7 +5,7 @@ use mathlib.Core.Bool.{false}
 use mathlib.Core.List.{List, [], _∷_}
 use lib.ListN.{length}
 use Rattle.exact.specs.Bounds.{Within}
-use Rattle.model.specs.Words.{wordAt, countAt}
+use Rattle.words.specs.Words.{wordAt, countAt}
 use Rattle.model.specs.Format.{size, bytes}
 use Rattle.model.specs.declared.Part.the-variants.{Effects, Rows, Records}
 use Rattle.model.specs.Chains.{recordEffect, recordFactor, nextRecord}

@@ -7,7 +7,7 @@ ghost use Rattle.exact.specs.Bounds.{Within};
 ghost use Rattle.exact.specs.declared.Question.{Question};
 ghost use Rattle.model.specs.Format.{bytes};
 ghost use Rattle.model.specs.declared.Part.the-variants.{Effects, Records};
-ghost use Rattle.model.specs.Magnitudes.{effectMost, shareMost, chainMost};
+ghost use Rattle.magnitudes.specs.Magnitudes.{effectMost, shareMost, chainMost};
 ghost use Rattle.model.specs.Decode.{effectAt, termsFrom};
 ghost use Rattle.rows.specs.Tables.{Distinct, EffectsInReach, RecordsInTables};
 ghost use Rattle.rows.specs.Chained.{termAt, ShareRight, leavesShare, extendedBy, chainFor, ChainRight};

@@ -25,7 +25,7 @@ use Rattle.model.specs.Job.{normal, overload}
 use Rattle.model.specs.Lanes.{bit, without, reduction}
 use Rattle.model.specs.Traffic.{setSum, bestNormal, bestOverload}
 use Rattle.model.proofs.Sets.{ones-count, without-bit}
-use Rattle.model.specs.Magnitudes.{hnLaneMost, setMost}
+use Rattle.magnitudes.specs.Magnitudes.{hnLaneMost, setMost}
 use Rattle.sets.specs.Sets.{BestBeside, OverloadAt, LoadingRight}
 use Rattle.sets.specs.declared.Loading.{Loading}
 use Rattle.sets.proofs.Reduced.{reduced-near}

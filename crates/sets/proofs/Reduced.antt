@@ -5,7 +5,7 @@ use lib.IntN.{ℤ, _*ℤ_}
 use Rattle.exact.specs.Bounds.{Within}
 use Rattle.exact.proofs.Bounds.{within-le, within-pos, within-mul}
 use Rattle.model.specs.Lanes.{reduction}
-use Rattle.model.specs.Magnitudes.{hnLaneMost, setMost}
+use Rattle.magnitudes.specs.Magnitudes.{hnLaneMost, setMost}
 
 -- r times m is at most 60
 pub reduced-near : (m : ℕ) (z : ℤ) → m ≤ 5 → Within (hnLaneMost * m) z → Within setMost (reduction m *ℤ z)

@@ -17,7 +17,7 @@ use Rattle.model.specs.Job.{Live, noTraffic, normal, overload}
 use Rattle.model.specs.Lanes.{bit, reduction}
 use Rattle.model.specs.Traffic.{setSum, bestNormal, bestOverload}
 use Rattle.model.specs.Arrangements.{OverloadLanes}
-use Rattle.model.specs.Magnitudes.{sumMost}
+use Rattle.magnitudes.specs.Magnitudes.{sumMost}
 use Rattle.sets.specs.declared.Pick.{Pick}
 use Rattle.sets.specs.declared.Growing.{Growing}
 use Rattle.sets.specs.declared.Loading.{Loading}

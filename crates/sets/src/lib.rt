@@ -10,7 +10,7 @@ ghost use Rattle.exact.specs.Choice.{if_then_else_};
 ghost use Rattle.exact.specs.Questions.{beats as beatsFor};
 ghost use Rattle.model.specs.Job.{normal, overload};
 ghost use Rattle.model.specs.Lanes.{bit, reduction as reductionOf};
-ghost use Rattle.model.specs.Magnitudes.{hnLaneMost, hoLaneMost, hnLanesMost};
+ghost use Rattle.magnitudes.specs.Magnitudes.{hnLaneMost, hoLaneMost, hnLanesMost};
 ghost use Rattle.sets.specs.Sets.{valueAt, isFree, ValuesFit, BestFree, added, Grown, Reaches, BestBeside, OverloadAt, LoadingRight};
 
 // Lane i's bit.

@@ -7,7 +7,7 @@ use mir.Syntax.{w64}
 use borrow.Author.Needs.{needs}
 use Rattle.exact.specs.Bounds.{Within}
 use Rattle.exact.proofs.Held.{Kept, nat, ret, plus, plus!, times, times! }
-use Rattle.model.specs.Words.{wordAt}
+use Rattle.words.specs.Words.{wordAt}
 use Rattle.centres.proofs.Ordinates.{ordinate-weights, ordinate-near}
 use Rattle.centres.proofs.ordinate.Statement.{statement}
 use Rattle.centres.proofs.ordinate.Tie as tie

@@ -1,7 +1,7 @@
 use mathlib.Core.Path.{_∙_, ap}
 use native.Mathlib.Nat.{add-zero}
 use borrow.Author.Needs.{needs}
-use Rattle.model.specs.Words.{countAt}
+use Rattle.words.specs.Words.{countAt}
 use Rattle.chains.proofs.effect.Statement.{statement}
 use Rattle.chains.proofs.effect.Tie as tie
 

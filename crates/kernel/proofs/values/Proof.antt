@@ -8,7 +8,7 @@ use Rattle.exact.proofs.Extremes.{by-question}
 use Rattle.model.specs.Job.{Job}
 use Rattle.model.specs.Decode.{decode}
 use Rattle.model.specs.Line.{HN, HO}
-use Rattle.model.specs.Magnitudes.{hnLineMost, hoLineMost}
+use Rattle.magnitudes.specs.Magnitudes.{hnLineMost, hoLineMost}
 use Rattle.centres.specs.Transverse.{TransverseFits}
 use Rattle.centres.specs.Spans.{Spanned}
 use Rattle.lanes.specs.Loadings.{LineEffectsFit, effectsOf}

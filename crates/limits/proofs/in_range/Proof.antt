@@ -4,7 +4,7 @@ use native.Mathlib.Omega.{arith}
 use lib.Dec.{leb, lit<}
 use mir.Syntax.{w64}
 use Rattle.exact.proofs.Held.{got, lit, lt-yes, lt-no, index!, index-is}
-use Rattle.model.specs.Words.{wordAt}
+use Rattle.words.specs.Words.{wordAt}
 use Rattle.limits.proofs.Words.{range-below, range-above, range-short}
 use Rattle.limits.proofs.in_range.Statement.{statement}
 use Rattle.limits.proofs.in_range.Tie as tie

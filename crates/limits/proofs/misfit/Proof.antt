@@ -3,12 +3,12 @@ use mathlib.Core.Path.{_≡_, sym, _∙_, ap}
 use Prim.Native.Nat.{ℕ, _+_, _-_, _*_, _≤_}
 use native.Mathlib.Omega.{arith}
 use mathlib.Core.Option.{some}
-use Rattle.model.specs.Fields.{moved, itemMisfit, misfit}
+use Rattle.words.specs.Fields.{moved, itemMisfit, misfit}
 use Rattle.model.specs.Format.{format}
 use Rattle.limits.specs.Faults.{placeOf}
 use Rattle.sections.proofs.Sizes.{few-words}
 use Rattle.limits.proofs.Scans.{Searched, search-begins, search-goes-on, search-found, search-over}
-use Rattle.model.proofs.Fits.{below}
+use Rattle.words.proofs.Fits.{below}
 use Rattle.limits.proofs.misfit.Statement.{statement}
 use Rattle.limits.proofs.misfit.Tie as tie
 

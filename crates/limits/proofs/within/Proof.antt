@@ -6,7 +6,7 @@ use mir.Syntax.{w64}
 use mir.Val.{toZ, ofZ}
 use Rattle.exact.specs.Choice.{between}
 use Rattle.exact.proofs.Held.{arg, got, lit, minus, minus! }
-use Rattle.model.specs.Words.{wordAt}
+use Rattle.words.specs.Words.{wordAt}
 use Rattle.limits.proofs.Words.{zero-less}
 use Rattle.limits.proofs.within.Statement.{statement}
 use Rattle.limits.proofs.within.Tie as tie

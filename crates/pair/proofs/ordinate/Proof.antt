@@ -1,7 +1,7 @@
 use lib.Dec.{lit<}
 use mir.Syntax.{w32, w64}
 use Rattle.exact.proofs.Held.{told, Kept, ret, cast, cast! }
-use Rattle.model.specs.Words.{wordAt}
+use Rattle.words.specs.Words.{wordAt}
 use borrow.Author.Needs.{needs}
 use Rattle.pair.proofs.ordinate.Statement.{statement}
 use Rattle.pair.proofs.ordinate.Tie as tie

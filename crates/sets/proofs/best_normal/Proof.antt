@@ -5,7 +5,7 @@ use mir.Syntax.{w64}
 use borrow.Author.Needs.{needs}
 use Rattle.exact.specs.Bounds.{Within}
 use Rattle.exact.proofs.Held.{known}
-use Rattle.model.specs.Magnitudes.{setMost}
+use Rattle.magnitudes.specs.Magnitudes.{setMost}
 use Rattle.sets.specs.Sets.{valueAt, BestBeside}
 use Rattle.sets.proofs.Best.{set-near, normal-right}
 use Rattle.sets.proofs.best_normal.Statement.{statement}

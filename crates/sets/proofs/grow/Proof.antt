@@ -13,7 +13,7 @@ use Rattle.exact.proofs.Bounds.{within-le}
 use Rattle.exact.proofs.Held.{known, told}
 use Rattle.exact.proofs.Weights.{count-le, sum-near}
 use Rattle.model.specs.Lanes.{bit}
-use Rattle.model.specs.Magnitudes.{hnLaneMost, hnLanesMost}
+use Rattle.magnitudes.specs.Magnitudes.{hnLaneMost, hnLanesMost}
 use Rattle.sets.specs.Sets.{valueAt, none, one, added, Grown, Reaches}
 use Rattle.sets.specs.declared.Growing.{Growing}
 use Rattle.sets.proofs.Growth.{FreeLane, free-lane, grown-more, reaches-more}

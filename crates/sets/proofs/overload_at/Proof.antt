@@ -11,7 +11,7 @@ use Rattle.exact.proofs.Held.{Kept, arg, known, got, told, plus, plus!, times, 
 use Rattle.exact.proofs.Weights.{count-le}
 use Rattle.model.specs.Lanes.{bit, reduction}
 use Rattle.model.specs.Traffic.{setSum}
-use Rattle.model.specs.Magnitudes.{hoLaneMost, setMost}
+use Rattle.magnitudes.specs.Magnitudes.{hoLaneMost, setMost}
 use Rattle.sets.specs.Sets.{valueAt}
 use Rattle.sets.proofs.Best.{set-near}
 use Rattle.sets.proofs.overload_at.Statement.{statement}

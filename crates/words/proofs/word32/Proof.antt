@@ -1,7 +1,7 @@
 use mathlib.Core.Path.{_∙_, ap}
 use mir.Syntax.{w32}
 use Rattle.exact.proofs.Held.{back}
-use Rattle.model.specs.Words.{signed32, wordAt}
+use Rattle.words.specs.Words.{signed32, wordAt}
 use borrow.Author.Needs.{needs}
 use Rattle.words.proofs.word32.Statement.{statement}
 use Rattle.words.proofs.word32.Tie as tie

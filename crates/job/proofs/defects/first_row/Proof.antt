@@ -8,7 +8,7 @@ use native.Mathlib.Omega.{arith}
 use lib.ListN.{length}
 use Rattle.exact.specs.Choice.{if_then_else_}
 use Rattle.exact.proofs.Bridge.{by-test}
-use Rattle.model.specs.Fields.{moved, itemMisfit, misfit}
+use Rattle.words.specs.Fields.{moved, itemMisfit, misfit}
 use Rattle.model.specs.Format.{headerOf, sectionOf}
 use Rattle.model.specs.Decode.{firstRecord}
 use Rattle.model.specs.Refusals.{rowTests}

@@ -1,11 +1,11 @@
 use mathlib.Core.Path.{sym, _∙_, ap, subst}
 use Prim.Native.Nat.{_<_}
-use Rattle.model.specs.Fields.{moved}
+use Rattle.words.specs.Fields.{moved}
 use Rattle.model.specs.Format.{headerOf, words, start}
 use Rattle.model.specs.Refusals.{rowTests}
 use Rattle.model.specs.declared.Header.{Header}
 use Rattle.model.specs.declared.Part.the-variants.{Rows}
-use Rattle.model.proofs.Fits.{below}
+use Rattle.words.proofs.Fits.{below}
 use Rattle.job.specs.Defects.{firstDefective}
 use Rattle.sections.proofs.Sizes.{counts, few-words}
 use borrow.Author.Needs.{needs}

@@ -1,10 +1,10 @@
 use mathlib.Core.Path.{sym, _∙_, ap}
 use native.Mathlib.Omega.{arith}
 use lib.ListN.{length}
-use Rattle.model.specs.Fields.{moved, misfit}
+use Rattle.words.specs.Fields.{moved, misfit}
 use Rattle.model.specs.Format.{format, words, start, sectionOf}
 use Rattle.model.specs.declared.Header.{Header}
-use Rattle.model.proofs.Fits.{below}
+use Rattle.words.proofs.Fits.{below}
 use Rattle.sections.proofs.Sizes.{counts, part-length, few-words}
 use borrow.Author.Needs.{needs}
 use Rattle.job.proofs.refusals.fault.Statement.{statement}

@@ -1,6 +1,6 @@
 use mathlib.Core.Path.{sym, ap, ap₂}
 use native.Mathlib.Omega.{arith}
-use Rattle.model.specs.Fields.{moved}
+use Rattle.words.specs.Fields.{moved}
 use Rattle.limits.specs.Faults.{placeOf}
 use borrow.Author.Needs.{needs}
 use Rattle.job.proofs.refusals.in_job.Statement.{statement}

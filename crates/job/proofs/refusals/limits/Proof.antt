@@ -3,7 +3,7 @@ use mathlib.Core.List.{List, [], _∷_}
 use Prim.Native.Nat.{ℕ}
 use native.Mathlib.Omega.{arith}
 use lib.ListN.{length}
-use Rattle.model.specs.Fields.{misfitFrom, itemFrom, misfit}
+use Rattle.words.specs.Fields.{misfitFrom, itemFrom, misfit}
 use Rattle.model.specs.Format.{format, faultIn}
 use Rattle.model.specs.Refusals.{fault2}
 use Rattle.model.specs.declared.Header.{Header}

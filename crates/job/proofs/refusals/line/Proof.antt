@@ -2,7 +2,7 @@ use mathlib.Core.Path.{_≡_, sym, _∙_, ap}
 use Prim.Native.Nat.{_*_}
 use native.Mathlib.Omega.{arith}
 use lib.ListN.{length}
-use Rattle.model.specs.Fields.{moved, misfit}
+use Rattle.words.specs.Fields.{moved, misfit}
 use Rattle.model.specs.Format.{headerOf, format, start}
 use Rattle.model.specs.declared.Part.the-variants.{Line}
 use Rattle.model.proofs.HeaderLimits.{header-fits}

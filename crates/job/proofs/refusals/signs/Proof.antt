@@ -1,13 +1,13 @@
 use mathlib.Core.Path.{sym, _∙_, ap}
 use native.Mathlib.Omega.{arith}
 use lib.ListN.{length}
-use Rattle.model.specs.Fields.{moved, misfit}
+use Rattle.words.specs.Fields.{moved, misfit}
 use Rattle.model.specs.Format.{start, sectionOf}
 use Rattle.model.specs.Refusals.{signs, fault5}
 use Rattle.model.specs.declared.Header.{Header}
 use Rattle.model.specs.declared.Part.the-variants.{Line}
 use Rattle.model.proofs.HeaderLimits.{header-fits}
-use Rattle.model.proofs.Fits.{below}
+use Rattle.words.proofs.Fits.{below}
 use Rattle.sections.proofs.Sizes.{counts, part-length, few-words}
 use Rattle.job.proofs.refusals.signs.Statement.{statement}
 use Rattle.job.proofs.refusals.signs.Tie as tie

@@ -8,7 +8,7 @@ use Rattle.exact.specs.Questions.{beats, other}
 use Rattle.exact.specs.declared.Question.{Question}
 use Rattle.exact.proofs.Extremes.{beats-yes, beats-no}
 use Rattle.exact.proofs.Held.{Kept, arg, known, retold, beats-held, times, times! }
-use Rattle.model.specs.Magnitudes.{transverseMost, hoLineMost, hoLaneMost}
+use Rattle.magnitudes.specs.Magnitudes.{transverseMost, hoLineMost, hoLaneMost}
 use Rattle.centres.specs.Spans.{SpanFits}
 use Rattle.centres.specs.declared.Centre.{Centre}
 use Rattle.centres.specs.declared.Span.{Span}

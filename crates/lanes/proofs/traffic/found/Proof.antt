@@ -6,7 +6,7 @@ use mir.Val.{toZ, ofZ}
 use Rattle.exact.specs.Bounds.{Within}
 use Rattle.exact.proofs.Held.{known, back, told}
 use Rattle.model.specs.Traffic.{effectOf}
-use Rattle.model.specs.Magnitudes.{trafficMost}
+use Rattle.magnitudes.specs.Magnitudes.{trafficMost}
 use Rattle.lanes.proofs.Placements.{traffic-placed}
 use Rattle.lanes.proofs.traffic.found.Statement.{statement}
 use Rattle.lanes.proofs.traffic.found.Tie as tie

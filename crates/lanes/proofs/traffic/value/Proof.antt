@@ -10,7 +10,7 @@ use Rattle.exact.proofs.Bounds.{within-le}
 use Rattle.exact.proofs.Held.{Kept, arg, nat, lit, back, times, times! }
 use Rattle.exact.proofs.Rounding.{quotient-near}
 use Rattle.model.specs.Traffic.{effectOf}
-use Rattle.model.specs.Magnitudes.{sumMost}
+use Rattle.magnitudes.specs.Magnitudes.{sumMost}
 use Rattle.lanes.proofs.traffic.value.Statement.{statement}
 use Rattle.lanes.proofs.traffic.value.Tie as tie
 

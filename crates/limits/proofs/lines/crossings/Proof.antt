@@ -6,7 +6,7 @@ use lib.IntN.{ℤ}
 use mir.Syntax.{w32}
 use mir.Val.{toZ, ofZ}
 use Rattle.exact.proofs.Held.{back}
-use Rattle.model.specs.Words.{wordAt}
+use Rattle.words.specs.Words.{wordAt}
 use Rattle.model.specs.Refusals.{crosses}
 use Rattle.limits.proofs.Scans.{Tally, tally-begins, tally-more}
 use Rattle.limits.proofs.lines.crossings.Statement.{statement}

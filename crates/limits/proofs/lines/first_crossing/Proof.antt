@@ -4,9 +4,9 @@ use Prim.Native.Nat.{_+_, _-_, _*_}
 use native.Mathlib.Omega.{arith}
 use mir.Syntax.{w64}
 use Rattle.exact.proofs.Held.{got}
-use Rattle.model.specs.Words.{wordAt}
+use Rattle.words.specs.Words.{wordAt}
 use Rattle.model.specs.Refusals.{crosses, signs}
-use Rattle.model.specs.Fields.{itemMisfit, misfit}
+use Rattle.words.specs.Fields.{itemMisfit, misfit}
 use Rattle.limits.proofs.Pieces.{piece}
 use Rattle.limits.proofs.Scans.{Searched, search-begins, search-goes-on, search-found, search-over}
 use Rattle.limits.proofs.lines.first_crossing.Statement.{statement}

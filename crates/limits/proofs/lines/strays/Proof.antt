@@ -7,7 +7,7 @@ use mir.Syntax.{w32}
 use Rattle.exact.specs.Choice.{between}
 use mir.Val.{toZ, ofZ}
 use Rattle.exact.proofs.Held.{any, arg, back, told}
-use Rattle.model.specs.Words.{wordAt}
+use Rattle.words.specs.Words.{wordAt}
 use Rattle.limits.proofs.Scans.{Tally, tally-begins, tally-more}
 use Rattle.limits.proofs.lines.strays.Statement.{statement}
 use Rattle.limits.proofs.lines.strays.Tie as tie

@@ -3,7 +3,7 @@ use Prim.Native.Nat.{_+_, _*_}
 use native.Mathlib.Omega.{arith}
 use lib.Dec.{lit<}
 use mir.Syntax.{w32}
-use Rattle.model.specs.Words.{wordAt}
+use Rattle.words.specs.Words.{wordAt}
 use Rattle.exact.proofs.Held.{told, Kept, got, plus, plus! }
 use Rattle.line.proofs.Fitting.{piece-word}
 use Rattle.line.proofs.pieces.end_sum.Statement.{statement}

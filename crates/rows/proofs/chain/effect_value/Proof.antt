@@ -2,7 +2,7 @@ use mathlib.Core.Path.{refl}
 use Prim.Native.Nat.{_*_, _-_}
 use lib.Dec.{lit<}
 use mir.Syntax.{w64}
-use Rattle.model.specs.Words.{wordAt}
+use Rattle.words.specs.Words.{wordAt}
 use Rattle.exact.proofs.Held.{Kept, ret, lit, times, times! }
 use borrow.Author.Needs.{needs}
 use Rattle.rows.proofs.chain.effect_value.Statement.{statement}

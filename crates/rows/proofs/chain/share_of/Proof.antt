@@ -6,7 +6,7 @@ use lib.IntN.{pos}
 use mir.Syntax.{w64}
 use mir.Val.{ofZ}
 use Rattle.exact.proofs.Held.{Held, got, nat, retold, times, times! }
-use Rattle.model.specs.Magnitudes.{effectMost}
+use Rattle.magnitudes.specs.Magnitudes.{effectMost}
 use Rattle.model.specs.Chains.{recordEffect, recordFactor}
 use Rattle.model.specs.Decode.{effectAt}
 use Rattle.rows.specs.Tables.{RecordInTables}

@@ -6,8 +6,8 @@ use lib.IntN.{pos}
 use mir.Syntax.{w64}
 use mir.Val.{ofZ}
 use Rattle.exact.proofs.Held.{Held, got, nat, retold, times, times! }
-use Rattle.model.specs.Magnitudes.{trafficMost}
-use Rattle.model.specs.Words.{countAt}
+use Rattle.magnitudes.specs.Magnitudes.{trafficMost}
+use Rattle.words.specs.Words.{countAt}
 use Rattle.model.specs.Decode.{liveOf}
 use Rattle.rows.specs.Governed.{liveValue}
 use borrow.Author.Needs.{needs}

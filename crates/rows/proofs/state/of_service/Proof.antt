@@ -2,7 +2,7 @@ use mathlib.Core.Path.{_≡_, _∙_, ap}
 use Prim.Native.Nat.{ℕ, _+_, _-_, _*_}
 use native.Mathlib.Omega.{arith}
 use lib.Dec.{eqb}
-use Rattle.model.specs.Words.{countAt}
+use Rattle.words.specs.Words.{countAt}
 use borrow.Author.Needs.{needs}
 use Rattle.rows.proofs.state.of_service.Statement.{statement}
 use Rattle.rows.proofs.state.of_service.Tie as tie

@@ -8,7 +8,7 @@ use Rattle.exact.specs.declared.Question.{Question}
 use Rattle.exact.specs.declared.Question.the-variants.{Greatest, Least}
 use Rattle.exact.proofs.Extremes.{by-question}
 use Rattle.exact.proofs.Held.{Held, got, told}
-use Rattle.model.specs.Magnitudes.{shareMost}
+use Rattle.magnitudes.specs.Magnitudes.{shareMost}
 use Rattle.model.specs.Decode.{effectAt, rowAt, termsFrom}
 use Rattle.model.specs.Job.{Effect, Row}
 use Rattle.rows.specs.Tables.{RowInTables}

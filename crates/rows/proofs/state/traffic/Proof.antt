@@ -4,7 +4,7 @@ use lib.Dec.{lit<}
 use mir.Syntax.{w64}
 use Rattle.exact.proofs.Bounds.{within-pos}
 use Rattle.exact.proofs.Held.{known, retold, told}
-use Rattle.model.specs.Magnitudes.{trafficMost}
+use Rattle.magnitudes.specs.Magnitudes.{trafficMost}
 use Rattle.rows.proofs.Loaded.{kind-normal, kind-overload, kind-none}
 use Rattle.rows.proofs.state.traffic.Statement.{statement}
 use Rattle.rows.proofs.state.traffic.Tie as tie

@@ -6,7 +6,7 @@ use mathlib.Core.List.{List, [], _∷_}
 use lib.IntN.{ℤ, pos, negℤ}
 use lib.ListN.{length}
 use Rattle.exact.specs.Choice.{if_then_else_, between, orElse}
-use Rattle.model.specs.Words.{wordAt}
+use Rattle.words.specs.Words.{wordAt}
 
 -- an item: its number in its section, from 0, and its words
 pub record Item : Type 0 where

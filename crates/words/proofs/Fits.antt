@@ -4,14 +4,18 @@ use mathlib.Core.Bool.{true}
 use mathlib.Core.Option.{Option, none, some, Option·some-injective, Option·none-ne-some, Option·some-ne-none}
 use mathlib.Core.List.{List, [], _∷_}
 use Prim.Native.Nat.{ℕ, zero, suc, _+_, _*_, _≤_, _<_}
+use native.Mathlib.Nat.{mul-le-mul, mul-suc, le-refl}
 use native.Mathlib.Decide.{decLe}
 use native.Mathlib.Omega.{arith}
 use lib.ListN.{length, getD}
 use Rattle.exact.specs.Choice.{if_then_else_, orElse}
 use Rattle.exact.proofs.Bridge.{by-test}
-use Rattle.model.specs.Words.{wordAt}
-use Rattle.model.specs.Fields.{Item, Field, Layout, free, wordsIn, moved, misfitFrom, itemFrom, itemMisfit, firstAnswer, misfit}
-use Rattle.model.proofs.Sections.{item-inside}
+use Rattle.words.specs.Words.{wordAt}
+use Rattle.words.specs.Fields.{Item, Field, Layout, free, wordsIn, moved, misfitFrom, itemFrom, itemMisfit, firstAnswer, misfit}
+
+-- item i of n items of k words is among them
+item-inside : (k i n : ℕ) → i < n → k * i + k ≤ k * n
+item-inside k i n h = let l : k * suc i ≤ k * n = mul-le-mul (le-refl k) h in rw (mul-suc k i) at l
 
 -- ---- an item
 item-fits : (fields : List Field) (j : ℕ) (item : Item) → misfitFrom j fields item ≡ none → (q : ℕ) → q < length fields → getD fields q free item (item .word (j + q)) ≡ true
