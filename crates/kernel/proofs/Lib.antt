@@ -1,4 +1,1 @@
-pub mod Right
-pub mod Fits
-pub mod Pairs
-pub mod Loads
+mod Right

@@ -19,7 +19,7 @@ use Rattle.model.proofs.Signs.{no-traffic}
 use Rattle.model.proofs.Attained.{reported-lawful, reported-gives}
 use Rattle.rows.specs.Governed.{trafficOf}
 use Rattle.rows.proofs.Limits.{Given, state-right}
-use Rattle.kernel.specs.AccountParts.{reportedLive, PartsRight}
+use Rattle.accepted.specs.AccountParts.{reportedLive, PartsRight}
 use Rattle.lanes.specs.Loadings.{TrafficPlaced}
 
 module _ (job : Job) (signed : OneSigned (job .line)) (g-pos : zero < job .deck .g) (patch rest : List ℕ) (a : Account)

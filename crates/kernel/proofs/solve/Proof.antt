@@ -20,8 +20,8 @@ use Rattle.model.proofs.Verdict.{clear, has-header, job-refuses, short-refused,
 use Rattle.job.specs.declared.refusals.Ruling.{Ruling}
 use Rattle.pair.specs.LineFits.{LineFits}
 use Rattle.line.proofs.Fitting.{fits-fewer}
-use Rattle.kernel.specs.AccountParts.{Ready, PartsRight}
-use Rattle.kernel.proofs.Fits.{sized, line-fits, signed, spaced}
+use Rattle.accepted.specs.AccountParts.{Ready, PartsRight}
+use Rattle.accepted.proofs.Fits.{sized, line-fits, signed, spaced}
 use Rattle.kernel.proofs.Right.{account-right}
 use borrow.Author.Needs.{needs}
 use Rattle.kernel.proofs.solve.Statement.{statement}

@@ -1,7 +1,7 @@
 use Rattle.rows.specs.Governed.{trafficOf, stateFor}
-use Rattle.kernel.proofs.Fits.{sized, tables-found, state-found}
-use Rattle.kernel.proofs.limit_states.Statement.{statement}
-use Rattle.kernel.proofs.limit_states.Tie as tie
+use Rattle.accepted.proofs.Fits.{sized, tables-found, state-found}
+use Rattle.accepted.proofs.limit_states.Statement.{statement}
+use Rattle.accepted.proofs.limit_states.Tie as tie
 
 section-requires-3 : tie.Need-section-requires-3
 section-requires-3 c κs = sized (c .before .before .before .pre .0)

@@ -13,10 +13,10 @@ use Rattle.centres.specs.Transverse.{TransverseFits}
 use Rattle.centres.specs.Spans.{Spanned}
 use Rattle.lanes.specs.Loadings.{LineEffectsFit, effectsOf}
 use Rattle.lanes.specs.declared.traffic.Effects.{Effects}
-use Rattle.kernel.proofs.Fits.{sized, across-fits, dynamic-limits, dynamic}
-use Rattle.kernel.proofs.Loads.{handed, effects-are, effects-fit, wider, spanned, factor-is}
-use Rattle.kernel.proofs.values.Statement.{statement}
-use Rattle.kernel.proofs.values.Tie as tie
+use Rattle.accepted.proofs.Fits.{sized, across-fits, dynamic-limits, dynamic}
+use Rattle.accepted.proofs.Loads.{handed, effects-are, effects-fit, wider, spanned, factor-is}
+use Rattle.accepted.proofs.values.Statement.{statement}
+use Rattle.accepted.proofs.values.Tie as tie
 
 effect-requires-3 : tie.Need-effect-requires-3
 effect-requires-3 c κs = c .before .before .before .pre .1 .0 .near

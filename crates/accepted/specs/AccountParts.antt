@@ -21,7 +21,7 @@ use Rattle.lanes.specs.Loadings.{TrafficPlaced}
 use Rattle.rows.specs.Governed.{trafficOf, StateFound}
 use Rattle.rows.specs.declared.state.LiveBoth.{LiveBoth}
 use Rattle.rows.specs.declared.state.LiveValues.{LiveValues}
-use Rattle.kernel.specs.declared.TrafficValues.{TrafficValues}
+use Rattle.accepted.specs.declared.TrafficValues.{TrafficValues}
 
 -- the job is accepted, and the header is its own
 pub record Ready (b : List ℕ) (head : Header) : Type 0 where

@@ -6,9 +6,9 @@ use Rattle.model.specs.Format.{headerOf}
 use Rattle.pair.specs.LineFits.{LineFits}
 use Rattle.line.specs.Sought.{SensesRight}
 use Rattle.model.specs.declared.Header.{Header}
-use Rattle.kernel.proofs.Fits.{sized, line-fits, line-limits}
-use Rattle.kernel.proofs.sought.Statement.{statement}
-use Rattle.kernel.proofs.sought.Tie as tie
+use Rattle.accepted.proofs.Fits.{sized, line-fits, line-limits}
+use Rattle.accepted.proofs.sought.Statement.{statement}
+use Rattle.accepted.proofs.sought.Tie as tie
 
 seek-requires : tie.Need-seek-requires
 seek-requires c κs =

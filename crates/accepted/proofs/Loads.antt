@@ -27,7 +27,7 @@ use Rattle.centres.specs.Spans.{AcrossRight, Spanned}
 use Rattle.centres.specs.declared.Across.{Across}
 use Rattle.lanes.specs.Loadings.{LineEffectsFit, effectsOf}
 use Rattle.lanes.specs.declared.traffic.Effects.{Effects}
-use Rattle.kernel.specs.AccountParts.{Ready}
+use Rattle.accepted.specs.AccountParts.{Ready}
 
 -- a kind's line effects go into 64 bits
 room : (kind : Kind) → Room w64 (70000000 + up (axle kind) * 10000)

@@ -15,11 +15,11 @@ use Rattle.rows.specs.declared.state.LiveBoth.{LiveBoth}
 use Rattle.rows.specs.Governed.{trafficOf, stateFor, StateFound}
 use Rattle.rows.proofs.Choosing.{by-limit}
 use Rattle.lanes.specs.Loadings.{TrafficPlaced}
-use Rattle.kernel.specs.AccountParts.{TrafficFound, StateOf, PartsRight}
-use Rattle.kernel.proofs.Pairs.{near-back, pairOf, liveOf, live-back}
+use Rattle.accepted.specs.AccountParts.{TrafficFound, StateOf, PartsRight}
+use Rattle.accepted.proofs.Pairs.{near-back, pairOf, liveOf, live-back}
 use borrow.Author.Needs.{needs}
-use Rattle.kernel.proofs.account.Statement.{statement}
-use Rattle.kernel.proofs.account.Tie as tie
+use Rattle.accepted.proofs.account.Statement.{statement}
+use Rattle.accepted.proofs.account.Tie as tie
 
 values-requires : tie.Need-values-requires
 values-requires c κs =

@@ -27,7 +27,7 @@ use Rattle.centres.specs.Transverse.{TransverseFits}
 use Rattle.rows.specs.Tables.{TablesFit}
 use Rattle.rows.specs.Governed.{StateFound}
 use Rattle.rows.proofs.Sections.{tables-fit}
-use Rattle.kernel.specs.AccountParts.{Ready}
+use Rattle.accepted.specs.AccountParts.{Ready}
 
 -- a piece is from 1 to 50 dm long
 length-range : (h : ℕ) → OneOf (1 ∷ 2 ∷ 5 ∷ 10 ∷ 25 ∷ 50 ∷ []) h → (1 ≤ h) × (h ≤ 50)

@@ -1,0 +1,3 @@
+pub mod Fits
+mod Pairs
+mod Loads
