@@ -1,7 +1,4 @@
-mod Few
-pub mod Terms
-pub mod Omissions
-pub mod Loaded
+mod Loaded
 pub mod Choosing
 pub mod Sections
 pub mod Limits

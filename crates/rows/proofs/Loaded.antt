@@ -15,8 +15,8 @@ use Rattle.model.specs.Decode.{liveOf}
 use Rattle.model.specs.Job.{Effect, Live, Row}
 use Rattle.model.specs.Rows.{rowValue, bestChain, bestRow}
 use Rattle.model.specs.declared.Governing.{Governing}
-use Rattle.rows.specs.declared.chain.Chained.{Chained}
-use Rattle.rows.specs.Chained.{ChainRight}
+use Rattle.omissions.specs.declared.Chained.{Chained}
+use Rattle.omissions.specs.Chained.{ChainRight}
 use Rattle.rows.specs.declared.state.LiveValues.{LiveValues}
 use Rattle.rows.specs.Governed.{liveValue, ladenRow, RowRight}
 

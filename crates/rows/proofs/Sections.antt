@@ -14,8 +14,9 @@ use Rattle.model.proofs.Sections.{section-length}
 use Rattle.model.proofs.Verdict.{Clear, clear, size-fits, part-inside}
 use Rattle.model.proofs.HeaderLimits.{header-fits}
 use Rattle.model.proofs.TableLimits.{effect-fits, row-fits, record-fits, no-return, no-repeat}
-use Rattle.rows.specs.Tables.{EffectsInReach, RecordsInTables, RowInTables, TablesFit}
-use Rattle.rows.proofs.Terms.{distinct-terms}
+use Rattle.omissions.specs.ChainTables.{EffectsInReach, RecordsInTables}
+use Rattle.rows.specs.Tables.{RowInTables, TablesFit}
+use Rattle.omissions.proofs.Terms.{distinct-terms}
 
 module _ (b : List ℕ) (accepted : jobVerdict b ≡ none) where
   c : Clear b

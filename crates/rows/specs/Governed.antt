@@ -17,7 +17,7 @@ use Rattle.model.specs.Answered.{omits}
 use Rattle.model.specs.declared.Governing.{Governing}
 use Rattle.model.specs.declared.State.{State}
 use Rattle.model.specs.declared.State.the-variants.{Absent, Reported}
-use Rattle.rows.specs.declared.chain.Chained.{Chained}
+use Rattle.omissions.specs.declared.Chained.{Chained}
 use Rattle.rows.specs.declared.state.LiveValues.{LiveValues}
 use Rattle.rows.specs.declared.state.LiveBoth.{LiveBoth}
 use Rattle.rows.specs.declared.state.RowBoth.{RowBoth}

@@ -1,3 +1,2 @@
 pub mod Tables
-pub mod Chained
 pub mod Governed

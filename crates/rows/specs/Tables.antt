@@ -1,43 +1,12 @@
 -- What is asked of the effect, row and record sections before they are combined. An item's words are in its section where the item's number times its bytes is at most the section's length.
 use Prim.Native.Nat.{ℕ, _+_, _-_, _*_, _≤_}
-use mathlib.Core.Path.{_≡_}
-use mathlib.Core.Bool.{false}
-use mathlib.Core.List.{List, [], _∷_}
+use mathlib.Core.List.{List}
 use lib.ListN.{length}
-use Rattle.exact.specs.Bounds.{Within}
-use Rattle.words.specs.Words.{wordAt, countAt}
+use Rattle.words.specs.Words.{countAt}
 use Rattle.model.specs.Format.{size, bytes}
-use Rattle.model.specs.declared.Part.the-variants.{Effects, Rows, Records}
-use Rattle.model.specs.Chains.{recordEffect, recordFactor, nextRecord}
+use Rattle.model.specs.declared.Part.the-variants.{Rows, Records}
 use Rattle.model.specs.Decode.{firstRecord, termsFrom}
-use Rattle.model.specs.Job.{Term}
-use Rattle.model.specs.Rows.{names}
-
--- no two of the terms name the same effect
-abbrev pub Distinct : List Term → Type 0
-Distinct [] = Unit {0}
-Distinct (t ∷ rest) = (names rest (t .effect) ≡ false) × Distinct rest
-
--- every term names one of effects 1 .. n
-abbrev pub NamesTo : ℕ → List Term → Type 0
-NamesTo n [] = Unit {0}
-NamesTo n (t ∷ rest) = (1 ≤ t .effect) × (t .effect ≤ n) × NamesTo n rest
-
--- every effect's value, in kN·U, is within its limits
-abbrev pub EffectsInReach : List ℕ → Type 0
-EffectsInReach s = (e : ℕ) → 1 ≤ e → bytes Effects * e ≤ length s → Within 1000000000 (wordAt s (size Effects * (e - 1)))
-
--- record c names an effect of the section, at most 16; its factor is within its limits, and its next is a record or 0
-pub record RecordInTables (effects s : List ℕ) (c : ℕ) : Type 0 where
-  pub effect : 1 ≤ recordEffect s c
-  pub most : recordEffect s c ≤ 16
-  pub there : bytes Effects * recordEffect s c ≤ length effects
-  pub factor : recordFactor s c ≤ 3000
-  pub next : bytes Records * nextRecord s c ≤ length s
-
--- every record is such
-abbrev pub RecordsInTables : (effects : List ℕ) → List ℕ → Type 0
-RecordsInTables effects s = (c : ℕ) → 1 ≤ c → bytes Records * c ≤ length s → RecordInTables effects s c
+use Rattle.omissions.specs.ChainTables.{Distinct, EffectsInReach, RecordsInTables}
 
 -- row r's words are within their limits, its first record is a record or 0, and its chain, of at most `count` records, names no effect twice
 pub record RowInTables (records : List ℕ) (count : ℕ) (s : List ℕ) (r : ℕ) : Type 0 where

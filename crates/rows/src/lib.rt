@@ -1,3 +1,2 @@
-// Load combinations: a row's best value with its omissions, and the row that governs a limit state.
-pub mod chain;
+// Load combinations: a row's best value, and the row that governs a limit state.
 pub mod state;

@@ -1,9 +1,8 @@
 // The rows' best values, and the governing row of each limit state for each question.
-use crate::chain;
-use crate::chain::Chained;
 use exact::Question;
 use model::Governing;
 use model::State;
+use omissions::Chained;
 ghost use mathlib.Core.Path.{_≡_};
 ghost use Prim.Native.Nat.{_+_, _-_, _*_, _≤_, _<_};
 ghost use lib.Dec.{eqb};
@@ -111,7 +110,7 @@ fn row(
     requires { ⌜ TablesFit (now effects) (now rows) (now records) r count × (1 ≤ r) × LiveFits live ⌝ }
     ensures { λ x. ⌜ ((q : Question) → (rowFor q x .row ≡ r) × RowRight q (effectAt (now (effects .entry))) (rowAt (now (rows .entry)) (now (records .entry)) count) (trafficOf live q) (rowFor q x)) ⌝ }
 {
-    let c = chain::best(effects, records, first_record(rows, r), count);
+    let c = omissions::best(effects, records, first_record(rows, r), count);
     let most = loaded(rows, r, live.greatest);
     let least = loaded(rows, r, live.least);
     RowBoth {

@@ -12,13 +12,13 @@ use Rattle.rows.proofs.state.governing.Statement.{statement}
 use Rattle.rows.proofs.state.governing.Tie as tie
 
 abbrev Inv-loop : tie.InvT-loop
-Inv-loop effects rows records n count live found₀ i₀ found i = (i ≤ n) × FoundRight (effectAt effects) (rowAt rows records count) (trafficOf live) i found
+Inv-loop effects rows records n count live found₀ i₀ found i = FoundRight (effectAt effects) (rowAt rows records count) (trafficOf live) i found × (i ≤ n)
 
 abbrev μ-loop : tie.MeasureT-loop
 μ-loop effects rows records n count live found₀ i₀ found i = n - i
 
 loop-holds : tie.Need-loop-holds Inv-loop μ-loop
-loop-holds c = let a = c .before .before .before .args in (omega arith, found-none (effectAt (a .effects .now)) (rowAt (a .rows .now) (a .records .now) (a .count)) (trafficOf (a .live)) _ refl)
+loop-holds c = let a = c .before .before .before .args in (found-none (effectAt (a .effects .now)) (rowAt (a .rows .now) (a .records .now) (a .count)) (trafficOf (a .live)) _ refl, omega arith)
 
 -- at a row
 module _ (c : tie.In-loop Inv-loop μ-loop) where
@@ -39,10 +39,10 @@ loop-again c =
     let at = c .before .before .before in
     let a = s at .args in
     let l = at .before .loop in (
-      omega arith,
       rw (c .with-row .ensures)
           (found-next (effectAt (a .effects .now)) (rowAt (a .rows .now) (a .records .now) (a .count)) (trafficOf (a .live)) (l .i) (c .before .of-service .result) (l .found) (c .before .before .row .result)
-          (sym (ap (λ (b : Bool). if b then service else ultimate) (c .before .of-service .ensures))) (c .before .before .row .ensures) (l .inv .1)),
+          (sym (ap (λ (b : Bool). if b then service else ultimate) (c .before .of-service .ensures))) (c .before .before .row .ensures) (l .inv .0)),
+      omega arith,
     )
 
 returns : tie.Need-returns Inv-loop μ-loop
@@ -50,7 +50,7 @@ returns c =
     let l = c .before .loop in
     let a = c .before .before .before .before .before .args in
     let e : l .i ≡ a .n = omega arith in
-    subst (λ (k : ℕ). FoundRight (effectAt (a .effects .now)) (rowAt (a .rows .now) (a .records .now) (a .count)) (trafficOf (a .live)) k (l .found)) e (l .inv .1)
+    subst (λ (k : ℕ). FoundRight (effectAt (a .effects .now)) (rowAt (a .rows .now) (a .records .now) (a .count)) (trafficOf (a .live)) k (l .found)) e (l .inv .0)
 
 pub governing-spec : {M : Type 1} → statement M
 governing-spec = tie.close (tie.spec Inv-loop μ-loop loop-holds (λ c. omega arith) row-requires (λ c. omega arith) of-service-requires (λ c κs. search needs) (λ c. omega arith) (λ c. omega arith) loop-again returns)

@@ -12,7 +12,7 @@ use Rattle.magnitudes.specs.Magnitudes.{shareMost}
 use Rattle.model.specs.Decode.{effectAt, rowAt, termsFrom}
 use Rattle.model.specs.Job.{Effect, Row}
 use Rattle.rows.specs.Tables.{RowInTables}
-use Rattle.rows.specs.Chained.{chainFor, ChainRight}
+use Rattle.omissions.specs.Chained.{chainFor, ChainRight}
 use Rattle.rows.specs.Governed.{trafficOf}
 use Rattle.rows.proofs.Loaded.{laden-is}
 use borrow.Author.Needs.{needs}

@@ -2,8 +2,8 @@ use mathlib.Core.Path.{ap}
 use Prim.Native.Nat.{ℕ}
 use lib.Dec.{eqb}
 use borrow.Author.Needs.{needs}
-use Rattle.rows.proofs.chain.optional.Statement.{statement}
-use Rattle.rows.proofs.chain.optional.Tie as tie
+use Rattle.omissions.proofs.optional.Statement.{statement}
+use Rattle.omissions.proofs.optional.Tie as tie
 
 returns : tie.Need-returns
 returns c = ap (λ (k : ℕ). eqb k 2) (c .count .ensures .0)

@@ -11,9 +11,9 @@ use Rattle.exact.proofs.Bridge.{by-test}
 use Rattle.model.specs.Chains.{recordEffect, nextRecord, chainFrom, step, walk, EverRepeats, returns, namesTwice}
 use Rattle.model.specs.Decode.{termsFrom}
 use Rattle.model.specs.Rows.{names}
-use Rattle.rows.specs.Tables.{Distinct}
+use Rattle.omissions.specs.ChainTables.{Distinct}
 use Rattle.model.proofs.Chains.{Bounded, names-exact}
-use Rattle.rows.specs.Chained.{termAt}
+use Rattle.omissions.specs.Chained.{termAt}
 
 -- ---- by the record that it starts from
 pub terms-none : (s : List ℕ) (left c : ℕ) → c ≡ 0 → termsFrom s left c ≡ []

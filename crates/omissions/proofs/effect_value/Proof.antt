@@ -5,8 +5,8 @@ use mir.Syntax.{w64}
 use Rattle.words.specs.Words.{wordAt}
 use Rattle.exact.proofs.Held.{Kept, ret, lit, times, times! }
 use borrow.Author.Needs.{needs}
-use Rattle.rows.proofs.chain.effect_value.Statement.{statement}
-use Rattle.rows.proofs.chain.effect_value.Tie as tie
+use Rattle.omissions.proofs.effect_value.Statement.{statement}
+use Rattle.omissions.proofs.effect_value.Tie as tie
 
 -- the word read
 abbrev word : (c : tie.After-word) → Kept w64 1000000000 (wordAt (c .before .before .args .effects .now) (2 * (c .before .before .args .e - 1)))

@@ -5,8 +5,8 @@ use mir.Val.{SFits}
 use Rattle.exact.specs.Questions.{beats}
 use Rattle.exact.proofs.Held.{any}
 use borrow.Author.Needs.{needs}
-use Rattle.rows.proofs.chain.leaves.Statement.{statement}
-use Rattle.rows.proofs.chain.leaves.Tie as tie
+use Rattle.omissions.proofs.leaves.Statement.{statement}
+use Rattle.omissions.proofs.leaves.Tie as tie
 
 returns : tie.Need-returns
 returns c =

@@ -27,13 +27,13 @@ use Rattle.model.specs.Job.{Effect, Term}
 use Rattle.model.specs.Lanes.{bit}
 use Rattle.model.specs.Rows.{share, names, bestChain}
 use Rattle.model.specs.Answered.{omits}
-use Rattle.rows.proofs.Few.{few}
+use Rattle.omissions.proofs.Few.{few}
 use Rattle.model.proofs.States.{SuitsAll, suits-share, chain-attained}
-use Rattle.rows.specs.Tables.{Distinct, NamesTo, RecordsInTables}
-use Rattle.rows.specs.declared.chain.Share.{Share}
-use Rattle.rows.specs.declared.chain.Chained.{Chained}
-use Rattle.rows.specs.Chained.{termAt, ShareRight, leavesShare, extendedBy, ChainRight}
-use Rattle.rows.proofs.Terms.{terms-next}
+use Rattle.omissions.specs.ChainTables.{Distinct, NamesTo, RecordsInTables}
+use Rattle.omissions.specs.declared.Share.{Share}
+use Rattle.omissions.specs.declared.Chained.{Chained}
+use Rattle.omissions.specs.Chained.{termAt, ShareRight, leavesShare, extendedBy, ChainRight}
+use Rattle.omissions.proofs.Terms.{terms-next}
 
 -- ---- a number's bits
 or-bit : (a b i : ℕ) → bit (bitOr a b) i ≡ (bit a i || bit b i)

@@ -5,8 +5,8 @@ use native.Mathlib.Omega.{arith}
 use lib.Dec.{lit<}
 use lib.Pow.{shl-exact}
 use borrow.Author.Needs.{needs}
-use Rattle.rows.proofs.chain.bit_of.Statement.{statement}
-use Rattle.rows.proofs.chain.bit_of.Tie as tie
+use Rattle.omissions.proofs.bit_of.Statement.{statement}
+use Rattle.omissions.proofs.bit_of.Tie as tie
 
 returns : tie.Need-returns
 returns c = shl-exact {a = 1} 1 (c .args .e - 1) 32 (lit< tt) (omega arith) ∙ one-mul (2 ^ (c .args .e - 1))

@@ -9,10 +9,10 @@ use Rattle.exact.proofs.Held.{Held, got, nat, retold, times, times! }
 use Rattle.magnitudes.specs.Magnitudes.{effectMost}
 use Rattle.model.specs.Chains.{recordEffect, recordFactor}
 use Rattle.model.specs.Decode.{effectAt}
-use Rattle.rows.specs.Tables.{RecordInTables}
+use Rattle.omissions.specs.ChainTables.{RecordInTables}
 use borrow.Author.Needs.{needs}
-use Rattle.rows.proofs.chain.share_of.Statement.{statement}
-use Rattle.rows.proofs.chain.share_of.Tie as tie
+use Rattle.omissions.proofs.share_of.Statement.{statement}
+use Rattle.omissions.proofs.share_of.Tie as tie
 
 -- where the record's effect has been read
 module _ (c : tie.After-effect) where

@@ -3,8 +3,8 @@ use lib.Dec.{lit<}
 use mir.Syntax.{w64}
 use Rattle.exact.proofs.Held.{known, plus, plus! }
 use borrow.Author.Needs.{needs}
-use Rattle.rows.proofs.chain.extended.Statement.{statement}
-use Rattle.rows.proofs.chain.extended.Tie as tie
+use Rattle.omissions.proofs.extended.Statement.{statement}
+use Rattle.omissions.proofs.extended.Tie as tie
 
 returns : tie.Need-returns
 returns c =

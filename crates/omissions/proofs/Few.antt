@@ -14,7 +14,7 @@ use Rattle.exact.specs.Ranges.{countTo}
 use Rattle.exact.proofs.Ranges.{count-cong}
 use Rattle.model.specs.Job.{Term}
 use Rattle.model.specs.Rows.{names}
-use Rattle.rows.specs.Tables.{Distinct, NamesTo}
+use Rattle.omissions.specs.ChainTables.{Distinct, NamesTo}
 
 -- one more passes
 count-more : (n i : ℕ) (test : ℕ → Bool) → i < n → test i ≡ false → countTo n (λ j. eqb (suc i) (suc j) || test j) ≡ countTo n test + 1

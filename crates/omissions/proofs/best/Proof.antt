@@ -8,18 +8,18 @@ use Rattle.exact.specs.declared.Question.{Question}
 use Rattle.exact.specs.declared.Question.the-variants.{Greatest, Least}
 use Rattle.exact.proofs.Extremes.{by-question}
 use Rattle.model.specs.Decode.{effectAt, termsFrom}
-use Rattle.rows.specs.Tables.{NamesTo}
-use Rattle.rows.specs.Chained.{chainFor, ChainRight}
-use Rattle.rows.proofs.Terms.{terms-none, terms-spent}
-use Rattle.rows.proofs.Omissions.{terms-named, Sofar, sofar-start, sofar-next, sofar-near, sofar-all}
-use Rattle.rows.proofs.chain.best.Statement.{statement}
-use Rattle.rows.proofs.chain.best.Tie as tie
+use Rattle.omissions.specs.ChainTables.{NamesTo}
+use Rattle.omissions.specs.Chained.{chainFor, ChainRight}
+use Rattle.omissions.proofs.Terms.{terms-none, terms-spent}
+use Rattle.omissions.proofs.Omissions.{terms-named, Sofar, sofar-start, sofar-next, sofar-near, sofar-all}
+use Rattle.omissions.proofs.best.Statement.{statement}
+use Rattle.omissions.proofs.best.Tie as tie
 
 abbrev Inv-loop : tie.InvT-loop
 Inv-loop effects records first count greatest₀ least₀ c₀ counter₀ greatest least c counter =
-    (counter ≤ count) × (12 * c ≤ length records)
-    × Sofar Greatest (effectAt effects) (termsFrom records count first) (termsFrom records (count - counter) c) counter greatest
+    Sofar Greatest (effectAt effects) (termsFrom records count first) (termsFrom records (count - counter) c) counter greatest
     × Sofar Least (effectAt effects) (termsFrom records count first) (termsFrom records (count - counter) c) counter least
+    × (counter ≤ count) × (12 * c ≤ length records)
 
 abbrev μ-loop : tie.MeasureT-loop
 μ-loop effects records first count greatest₀ least₀ c₀ counter₀ greatest least c counter = count - counter
@@ -28,7 +28,7 @@ loop-holds : tie.Need-loop-holds Inv-loop μ-loop
 loop-holds c =
     let s = c .before .before in
     let a = s .args in
-    (omega arith, s .pre .2, sofar-start Greatest (effectAt (a .effects .now)) (a .records .now) (a .count) (a .first), sofar-start Least (effectAt (a .effects .now)) (a .records .now) (a .count) (a .first))
+    (sofar-start Greatest (effectAt (a .effects .now)) (a .records .now) (a .count) (a .first), sofar-start Least (effectAt (a .effects .now)) (a .records .now) (a .count) (a .first), omega arith, s .pre .2)
 
 -- at the loop
 module _ (c : tie.At-loop Inv-loop μ-loop) where
@@ -41,23 +41,23 @@ module _ (c : tie.At-loop Inv-loop μ-loop) where
   -- nothing is left
   ended : termsFrom (s .args .records .now) (s .args .count - c .loop .counter) (c .loop .c) ≡ [] → (q : Question) →
       ChainRight q (effectAt (s .args .effects .now)) (termsFrom (s .args .records .now) (s .args .count) (s .args .first)) (chainFor q (record { greatest = c .loop .greatest; least = c .loop .least }))
-  ended none = by-question _ (sofar-all Greatest (effectAt (s .args .effects .now)) (c .loop .inv .2) (s .pre .3) named none) (sofar-all Least (effectAt (s .args .effects .now)) (c .loop .inv .3) (s .pre .3) named none)
+  ended none = by-question _ (sofar-all Greatest (effectAt (s .args .effects .now)) (c .loop .inv .0) (s .pre .3) named none) (sofar-all Least (effectAt (s .args .effects .now)) (c .loop .inv .1) (s .pre .3) named none)
 
 returns : tie.Need-returns Inv-loop μ-loop
 returns c = let l = c .before .before in ended l (terms-none (s l .args .records .now) (s l .args .count - l .loop .counter) (l .loop .c) (c .if1 .taken))
 
 share-of-requires : tie.Need-share-of-requires Inv-loop μ-loop
-share-of-requires c κs = let l = c .before .before in (s l .pre .0, s l .pre .1, pos-of-ne-zero (c .if1 .left), l .loop .inv .1)
+share-of-requires c κs = let l = c .before .before in (s l .pre .0, s l .pre .1, pos-of-ne-zero (c .if1 .left), l .loop .inv .3)
 
 extended-requires : tie.Need-extended-requires Inv-loop μ-loop
 extended-requires c κs =
     let l = c .before .before .before in
-    (c .share-of .ensures .near, sofar-near Greatest _ (l .loop .inv .2) (s l .pre .3) (named l))
+    (c .share-of .ensures .near, sofar-near Greatest _ (l .loop .inv .0) (s l .pre .3) (named l))
 
 extended-requires-2 : tie.Need-extended-requires-2 Inv-loop μ-loop
 extended-requires-2 c κs =
     let l = c .before .before .before .before in
-    (c .before .share-of .ensures .near, sofar-near Least _ (l .loop .inv .3) (s l .pre .3) (named l))
+    (c .before .share-of .ensures .near, sofar-near Least _ (l .loop .inv .1) (s l .pre .3) (named l))
 
 -- past both
 module _ (c : tie.After-extended2 Inv-loop μ-loop) where
@@ -68,7 +68,7 @@ module _ (c : tie.After-extended2 Inv-loop μ-loop) where
   at = else .before .before
 
 next-requires : tie.Need-next-requires Inv-loop μ-loop
-next-requires c κs = (pos-of-ne-zero (else c .if1 .left), at c .loop .inv .1)
+next-requires c κs = (pos-of-ne-zero (else c .if1 .left), at c .loop .inv .3)
 
 loop-again : tie.Need-loop-again Inv-loop μ-loop
 loop-again c =
@@ -78,10 +78,10 @@ loop-again c =
     let here = else d .if1 .left in
     let own = d .before .before .share-of .ensures in
     let n = c .next .ensures .0 in (
+      rw (d .before .extended .ensures) (sofar-next Greatest (effectAt (a .effects .now)) (a .records .now) _ (a .count) (l .counter) (l .c) (c .next .result) _ (l .greatest) here (omega arith) n own (l .inv .0)),
+      rw (d .extended2 .ensures) (sofar-next Least (effectAt (a .effects .now)) (a .records .now) _ (a .count) (l .counter) (l .c) (c .next .result) _ (l .least) here (omega arith) n own (l .inv .1)),
       omega arith,
-      rw n (s (at d) .pre .1 (l .c) (pos-of-ne-zero here) (l .inv .1) .next),
-      rw (d .before .extended .ensures) (sofar-next Greatest (effectAt (a .effects .now)) (a .records .now) _ (a .count) (l .counter) (l .c) (c .next .result) _ (l .greatest) here (omega arith) n own (l .inv .2)),
-      rw (d .extended2 .ensures) (sofar-next Least (effectAt (a .effects .now)) (a .records .now) _ (a .count) (l .counter) (l .c) (c .next .result) _ (l .least) here (omega arith) n own (l .inv .3)),
+      rw n (s (at d) .pre .1 (l .c) (pos-of-ne-zero here) (l .inv .3) .next),
     )
 
 returns-2 : tie.Need-returns-2 Inv-loop μ-loop

@@ -9,8 +9,8 @@ ghost use Rattle.model.specs.Format.{bytes};
 ghost use Rattle.model.specs.declared.Part.the-variants.{Effects, Records};
 ghost use Rattle.magnitudes.specs.Magnitudes.{effectMost, shareMost, chainMost};
 ghost use Rattle.model.specs.Decode.{effectAt, termsFrom};
-ghost use Rattle.rows.specs.Tables.{Distinct, EffectsInReach, RecordsInTables};
-ghost use Rattle.rows.specs.Chained.{termAt, ShareRight, leavesShare, extendedBy, chainFor, ChainRight};
+ghost use Rattle.omissions.specs.ChainTables.{Distinct, EffectsInReach, RecordsInTables};
+ghost use Rattle.omissions.specs.Chained.{termAt, ShareRight, leavesShare, extendedBy, chainFor, ChainRight};
 
 // Effect e's value in N·U.
 fn effect_value(effects: &[u8], e: usize) -> i64
@@ -96,7 +96,7 @@ pub struct ChainedBoth {
 }
 
 // The best of the chain from a first record, of at most so many records.
-pub(crate) fn best(effects: &[u8], records: &[u8], first: usize, count: usize) -> ChainedBoth
+pub fn best(effects: &[u8], records: &[u8], first: usize, count: usize) -> ChainedBoth
     requires { ⌜ EffectsInReach (now effects) × RecordsInTables (now effects) (now records) × (bytes Records * first ≤ length (now records)) × Distinct (termsFrom (now records) count first) ⌝ }
     ensures { λ r. ⌜ ((q : Question) → ChainRight q (effectAt (now (effects .entry))) (termsFrom (now (records .entry)) count first) (chainFor q r)) ⌝ }
 {

@@ -15,9 +15,9 @@ use Rattle.model.specs.Chains.{recordEffect, recordFactor}
 use Rattle.model.specs.Job.{Effect, Term}
 use Rattle.model.specs.Rows.{share, chainValue, MayOmit, bestChain}
 use Rattle.model.specs.Answered.{omits}
-use Rattle.rows.specs.declared.chain.Share.{Share}
-use Rattle.rows.specs.declared.chain.Chained.{Chained}
-use Rattle.rows.specs.declared.chain.ChainedBoth.{ChainedBoth}
+use Rattle.omissions.specs.declared.Share.{Share}
+use Rattle.omissions.specs.declared.Chained.{Chained}
+use Rattle.omissions.specs.declared.ChainedBoth.{ChainedBoth}
 
 -- record c's content
 abbrev pub termAt : List ℕ → ℕ → Term

@@ -1,0 +1,2 @@
+pub mod ChainTables
+pub mod Chained
