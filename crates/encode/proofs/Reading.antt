@@ -12,7 +12,8 @@ use mir.Facts.{toZ-ofZ, fits-ofZ}
 use Rattle.model.specs.declared.State.{State}
 use Rattle.model.specs.declared.State.the-variants.{Absent, Reported}
 use Rattle.model.specs.declared.Account.{Account}
-use Rattle.encode.specs.Encoding.{accountCount, limitNumbers, countNumbers, accountNumbers, numberBytes, numbersBytes, accountBytes, numberOf, ReadBack, AllFit}
+use Rattle.numbers.specs.NumberBytes.{numberBytes, numbersBytes, AllFit}
+use Rattle.encode.specs.Encoding.{accountCount, limitNumbers, countNumbers, accountNumbers, accountBytes, numberOf, ReadBack}
 use Rattle.buffer.proofs.Little.{little-read}
 
 pub limit-length : (s : State) → length (limitNumbers s) ≡ 11

@@ -24,7 +24,8 @@ use Rattle.model.specs.declared.State.the-variants.{Absent, Reported}
 use Rattle.model.proofs.Verdict.{clear, job-accepted}
 use Rattle.model.proofs.HeaderLimits.{HeaderFits, header-fits}
 use Rattle.model.proofs.Lanes.{lanes-few, unit-pos}
-use Rattle.encode.specs.Encoding.{CentresFit, RowsFit, CountsFit}
+use Rattle.placements.specs.PlacementNumbers.{CentresFit}
+use Rattle.encode.specs.Encoding.{RowsFit, CountsFit}
 
 -- the lanes of a refusal's account
 zero-centres : CentresFit zeroTraffic

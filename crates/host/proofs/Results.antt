@@ -10,7 +10,8 @@ use Rattle.model.specs.Answered.{Answered, refused, accepted, zeroAccount}
 use Rattle.model.specs.Determined.{Fixed, fixedOf}
 use Rattle.model.proofs.Determined.{determined}
 use Rattle.model.specs.declared.Answer.{Answer}
-use Rattle.encode.specs.Encoding.{accountSize, accountBytes, numbersBytes}
+use Rattle.numbers.specs.NumberBytes.{numbersBytes}
+use Rattle.encode.specs.Encoding.{accountSize, accountBytes}
 use Rattle.host.specs.Hosted.{packed, Hosted, short, answered}
 use Rattle.model.proofs.Places.{refusal-small, answer-small}
 

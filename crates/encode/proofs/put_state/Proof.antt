@@ -1,7 +1,7 @@
 use mathlib.Core.Path.{sym, ap, subst}
 use native.Mathlib.Omega.{arith}
 use Rattle.encode.specs.Encoding.{limitNumbers, RowsFit}
-use Rattle.encode.proofs.Stores.{retold}
+use Rattle.numbers.proofs.Stores.{retold}
 use borrow.Author.Needs.{needs}
 use Rattle.encode.proofs.put_state.Statement.{statement}
 use Rattle.encode.proofs.put_state.Tie as tie

@@ -1,5 +1,5 @@
 use native.Mathlib.Omega.{arith}
-use Rattle.encode.proofs.Stores.{and-then}
+use Rattle.numbers.proofs.Stores.{and-then}
 use Rattle.encode.proofs.Reading.{limit-length}
 use borrow.Author.Needs.{needs}
 use Rattle.encode.proofs.put_states.Statement.{statement}

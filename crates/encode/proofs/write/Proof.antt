@@ -4,7 +4,7 @@ use Prim.Native.Nat.{ℕ}
 use native.Mathlib.Omega.{arith}
 use lib.ListN.{drop, length-append}
 use Rattle.encode.specs.Encoding.{accountSize, limitNumbers, accountBytes, ReadBack}
-use Rattle.encode.proofs.Stores.{and-then}
+use Rattle.numbers.proofs.Stores.{and-then}
 use Rattle.buffer.proofs.Stores.{from-start}
 use Rattle.encode.proofs.Reading.{limit-length, account-count, account-read}
 use borrow.Author.Needs.{needs}

@@ -1,9 +1,9 @@
 use mathlib.Core.Path.{refl}
 use lib.IntN.{pos}
-use Rattle.encode.proofs.Stores.{one}
+use Rattle.numbers.proofs.Stores.{one}
 use borrow.Author.Needs.{needs}
-use Rattle.encode.proofs.put_count.Statement.{statement}
-use Rattle.encode.proofs.put_count.Tie as tie
+use Rattle.numbers.proofs.put_count.Statement.{statement}
+use Rattle.numbers.proofs.put_count.Tie as tie
 
 returns : tie.Need-returns
 returns c =

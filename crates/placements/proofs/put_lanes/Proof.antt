@@ -6,11 +6,12 @@ use lib.ListN.{length, length-append}
 use borrow.Author.Needs.{needs}
 use Rattle.model.specs.declared.Placement.{Placement}
 use Rattle.model.specs.Answered.{laneAt}
-use Rattle.encode.specs.Encoding.{laneNumbers, lanesNumbers, Written}
-use Rattle.encode.proofs.Stores.{nothing, and-then, retold}
+use Rattle.numbers.specs.NumberBytes.{Written}
+use Rattle.placements.specs.PlacementNumbers.{laneNumbers, lanesNumbers}
+use Rattle.numbers.proofs.Stores.{nothing, and-then, retold}
 use Rattle.buffer.proofs.Stores.{kept}
-use Rattle.encode.proofs.put_lanes.Statement.{statement}
-use Rattle.encode.proofs.put_lanes.Tie as tie
+use Rattle.placements.proofs.put_lanes.Statement.{statement}
+use Rattle.placements.proofs.put_lanes.Tie as tie
 
 abbrev Inv-loop : tie.InvT-loop
 Inv-loop out₀ at p end₀ i₀ out end i = (i ≤ 5) × Written out₀ at (lanesNumbers p i) out end

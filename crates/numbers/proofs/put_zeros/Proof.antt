@@ -1,7 +1,7 @@
 use borrow.Author.Needs.{needs}
-use Rattle.encode.proofs.Stores.{zeros}
-use Rattle.encode.proofs.put_zeros.Statement.{statement}
-use Rattle.encode.proofs.put_zeros.Tie as tie
+use Rattle.numbers.proofs.Stores.{zeros}
+use Rattle.numbers.proofs.put_zeros.Statement.{statement}
+use Rattle.numbers.proofs.put_zeros.Tie as tie
 
 returns : tie.Need-returns
 returns c =

@@ -2,10 +2,10 @@ use mathlib.Core.Path.{_∙_, ap}
 use mir.Syntax.{w64}
 use mir.Val.{ofZ}
 use mir.Facts.{toZ-ofZ}
-use Rattle.encode.proofs.Stores.{one}
+use Rattle.numbers.proofs.Stores.{one}
 use borrow.Author.Needs.{needs}
-use Rattle.encode.proofs.put_signed.Statement.{statement}
-use Rattle.encode.proofs.put_signed.Tie as tie
+use Rattle.numbers.proofs.put_signed.Statement.{statement}
+use Rattle.numbers.proofs.put_signed.Tie as tie
 
 returns : tie.Need-returns
 returns c =

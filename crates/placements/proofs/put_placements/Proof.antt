@@ -1,8 +1,8 @@
 use native.Mathlib.Omega.{arith}
-use Rattle.encode.proofs.Stores.{and-then}
+use Rattle.numbers.proofs.Stores.{and-then}
 use borrow.Author.Needs.{needs}
-use Rattle.encode.proofs.put_placements.Statement.{statement}
-use Rattle.encode.proofs.put_placements.Tie as tie
+use Rattle.placements.proofs.put_placements.Statement.{statement}
+use Rattle.placements.proofs.put_placements.Tie as tie
 
 put-placement-requires : tie.Need-put-placement-requires
 put-placement-requires c κs = let s = c .before .before .before .before .before .before in (omega arith, λ i. s .pre .1 i .0)

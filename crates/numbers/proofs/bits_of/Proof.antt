@@ -10,8 +10,8 @@ use mir.Syntax.{w64}
 use mir.Val.{toZ, ofZ}
 use mir.Facts.{toZ-pos}
 use Rattle.exact.proofs.Held.{any, lit, lt-yes, lt-no, index!, index-is}
-use Rattle.encode.proofs.bits_of.Statement.{statement}
-use Rattle.encode.proofs.bits_of.Tie as tie
+use Rattle.numbers.proofs.bits_of.Statement.{statement}
+use Rattle.numbers.proofs.bits_of.Tie as tie
 
 -- a pattern of 64 ones
 abbrev ones : ℕ

@@ -10,17 +10,12 @@ use mir.Val.{SFits, toZ, ofZ}
 use mir.Facts.{toZ-ofZ}
 use Rattle.buffer.specs.Stored.{littleEndian, Stored}
 use Rattle.buffer.proofs.Stores as stored
-use Rattle.encode.specs.Encoding.{numberBytes, numbersBytes, AllFit, Written}
+use Rattle.numbers.specs.NumberBytes.{numberBytes, numbersBytes, AllFit, Written}
 
 bytes-append : (xs ys : List ℤ) → numbersBytes (xs ++ ys) ≡ numbersBytes xs ++ numbersBytes ys
 unfolding numbersBytes
 bytes-append [] ys = refl
 bytes-append (x ∷ xs) ys = ap (λ (r : List ℕ). numberBytes x ++ r) (bytes-append xs ys)
-
-pub bytes-length : (xs : List ℤ) → length (numbersBytes xs) ≡ 8 * length xs
-unfolding numbersBytes
-bytes-length [] = refl
-bytes-length (x ∷ xs) = let e = bytes-length xs in omega arith
 
 fit-append : (xs ys : List ℤ) → AllFit xs → AllFit ys → AllFit (xs ++ ys)
 fit-append [] ys f g = g
