@@ -15,7 +15,6 @@ ghost use Rattle.job.specs.Rulings.{Rules, testOf, Passed};
 use crate::defects;
 use crate::defects::Defect;
 use limits::Fault;
-use limits::lines;
 use model::Header;
 use model::Part;
 use sections::header;
@@ -100,7 +99,7 @@ fn line(s: &[u8], head: Header) -> Fault
     requires { ⌜ Sized (now s) head ⌝ }
     ensures { λ r. ⌜ placeOf r ≡ fault (now (s .entry)) (headerOf (now (s .entry))) Line ⌝ }
 {
-    if lines::strays(sections::section(s, head, Part::Line), 5000) == 0 {
+    if ordinates::strays(sections::section(s, head, Part::Line), 5000) == 0 {
         return Fault::Clear;
     }
     fault(s, head, Part::Line)
@@ -119,7 +118,7 @@ fn signs(s: &[u8], head: Header) -> Fault
     requires { ⌜ Sized (now s) head ⌝ }
     ensures { λ r. ⌜ placeOf r ≡ fault5 (now (s .entry)) ⌝ }
 {
-    let own = lines::crossing(sections::section(s, head, Part::Line), head.pieces);
+    let own = ordinates::crossing(sections::section(s, head, Part::Line), head.pieces);
     in_job(head, Part::Line, own)
 }
 

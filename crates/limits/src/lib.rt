@@ -1,6 +1,4 @@
 // The lowest place at fault in a part, item by item, by the limits of its row of the table. Places count from the part's first word.
-pub mod lines;
-
 ghost use mathlib.Core.Path.{_≡_};
 ghost use mathlib.Core.Option.{some};
 ghost use mathlib.Core.List.{[], _∷_};

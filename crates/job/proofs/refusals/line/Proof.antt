@@ -7,7 +7,7 @@ use Rattle.model.specs.Format.{headerOf, format, start}
 use Rattle.model.specs.declared.Part.the-variants.{Line}
 use Rattle.model.proofs.HeaderLimits.{header-fits}
 use Rattle.sections.proofs.Sizes.{part-length}
-use Rattle.limits.proofs.Pieces.{all-within}
+use Rattle.ordinates.proofs.Pieces.{all-within}
 use borrow.Author.Needs.{needs}
 use Rattle.job.proofs.refusals.line.Statement.{statement}
 use Rattle.job.proofs.refusals.line.Tie as tie

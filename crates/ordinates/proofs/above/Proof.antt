@@ -2,8 +2,8 @@ use mathlib.Core.Path.{refl}
 use lib.Dec.{lit<}
 use mir.Syntax.{w32}
 use Rattle.exact.proofs.Held.{any, lit, lt-yes, lt-no}
-use Rattle.limits.proofs.lines.above.Statement.{statement}
-use Rattle.limits.proofs.lines.above.Tie as tie
+use Rattle.ordinates.proofs.above.Statement.{statement}
+use Rattle.ordinates.proofs.above.Tie as tie
 
 returns : tie.Need-returns
 returns c = let X = any (c .before .fits .x) in rw (lt-yes (lit w32 0 (lit< tt)) X (c .if1 .taken)) refl

@@ -5,9 +5,9 @@ use lib.IntN.{negℤ}
 use lib.Signed.{leZ}
 use mir.Syntax.{w32}
 use Rattle.exact.proofs.Held.{any, arg, lit, lt-no, minus, minus!, retold}
 use Rattle.limits.proofs.Words.{at-least, zero-less}
-use Rattle.limits.proofs.lines.outside.Statement.{statement}
-use Rattle.limits.proofs.lines.outside.Tie as tie
+use Rattle.ordinates.proofs.outside.Statement.{statement}
+use Rattle.ordinates.proofs.outside.Tie as tie
 
 sub-if1 : tie.Need-sub-if1
 sub-if1 c = minus! (lit w32 0 (lit< tt)) (arg (c .fits .m) (c .pre)) (lit< tt)

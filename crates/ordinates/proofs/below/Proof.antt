@@ -2,8 +2,8 @@ use mathlib.Core.Path.{refl}
 use lib.Dec.{lit<}
 use mir.Syntax.{w32}
 use Rattle.exact.proofs.Held.{any, lit, lt-yes, lt-no}
-use Rattle.limits.proofs.lines.below.Statement.{statement}
-use Rattle.limits.proofs.lines.below.Tie as tie
+use Rattle.ordinates.proofs.below.Statement.{statement}
+use Rattle.ordinates.proofs.below.Tie as tie
 
 returns : tie.Need-returns
 returns c = let X = any (c .before .fits .x) in rw (lt-yes X (lit w32 0 (lit< tt)) (c .if1 .taken)) refl

@@ -7,8 +7,8 @@ use lib.Signed.{ltZ}
 use Rattle.exact.specs.Choice.{if_then_else_}
 use Rattle.exact.proofs.Held.{any}
 use borrow.Author.Needs.{needs}
-use Rattle.limits.proofs.lines.crossed.Statement.{statement}
-use Rattle.limits.proofs.lines.crossed.Tie as tie
+use Rattle.ordinates.proofs.crossed.Statement.{statement}
+use Rattle.ordinates.proofs.crossed.Tie as tie
 
 -- a test as a number
 abbrev flag : Bool → ℕ

@@ -11,9 +11,9 @@ ghost use Rattle.words.specs.Fields.{misfit};
 ghost use Rattle.model.specs.Format.{bytes};
 ghost use Rattle.model.specs.declared.Part.the-variants.{Line};
 ghost use Rattle.model.specs.Refusals.{crosses, signs};
 ghost use Rattle.limits.specs.Faults.{placeOf};
-ghost use Rattle.limits.specs.Lines.{AllWithin, NoneCrosses};
-use crate::Fault;
+ghost use Rattle.ordinates.specs.Lines.{AllWithin, NoneCrosses};
+use limits::Fault;
 
 // 0 for a word from -m to m, else 1.
 fn outside(x: i32, m: i32) -> u32

@@ -8,9 +8,9 @@ use Rattle.exact.specs.Choice.{between}
 use mir.Val.{toZ, ofZ}
 use Rattle.exact.proofs.Held.{any, arg, back, told}
 use Rattle.words.specs.Words.{wordAt}
 use Rattle.limits.proofs.Scans.{Tally, tally-begins, tally-more}
-use Rattle.limits.proofs.lines.strays.Statement.{statement}
-use Rattle.limits.proofs.lines.strays.Tie as tie
+use Rattle.ordinates.proofs.strays.Statement.{statement}
+use Rattle.ordinates.proofs.strays.Tie as tie
 
 abbrev Inv-loop : tie.InvT-loop
 Inv-loop s m sum₀ k₀ k-end sum k = Tally (λ j. between (negℤ (toZ w32 m)) (toZ w32 m) (wordAt s j) ≡ true) sum k

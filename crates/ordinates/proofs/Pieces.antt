@@ -16,8 +16,8 @@ use Rattle.model.specs.Format.{format}
 use Rattle.model.specs.Refusals.{crosses, signs}
 use Rattle.model.specs.declared.Header.{Header}
 use Rattle.model.specs.declared.Part.the-variants.{Line}
-use Rattle.limits.specs.Lines.{AllWithin, NoneCrosses}
+use Rattle.ordinates.specs.Lines.{AllWithin, NoneCrosses}
 use Rattle.limits.proofs.Scans.{answer-none}
 
 -- a piece by the test of refusal 5, of known answer
 pub piece : (n : ℕ) (s : List ℕ) (i : ℕ) {t : Bool} → crosses (wordAt s (2 * i)) (wordAt s (2 * i + 1)) ≡ t → itemMisfit (signs n .fields) s i ≡ (if t then some (2 * i) else none)

@@ -8,8 +8,8 @@ use mir.Syntax.{w64}
 use Rattle.exact.proofs.Bridge.{by-test}
 use Rattle.exact.proofs.Tests.{lt-is}
 use Rattle.exact.proofs.Held.{any, lit, lt-yes, lt-no}
-use Rattle.limits.proofs.lines.crosses.Statement.{statement}
-use Rattle.limits.proofs.lines.crosses.Tie as tie
+use Rattle.ordinates.proofs.crosses.Statement.{statement}
+use Rattle.ordinates.proofs.crosses.Tie as tie
 
 -- a number above 0 is not below it
 not-below : (z : ℤ) → ltZ (pos 0) z ≡ true → ltZ z (pos 0) ≡ false

@@ -1,8 +1,8 @@
 use mathlib.Core.Path.{sym}
-use Rattle.limits.proofs.Pieces.{none-crossing}
+use Rattle.ordinates.proofs.Pieces.{none-crossing}
 use borrow.Author.Needs.{needs}
-use Rattle.limits.proofs.lines.crossing.Statement.{statement}
-use Rattle.limits.proofs.lines.crossing.Tie as tie
+use Rattle.ordinates.proofs.crossing.Statement.{statement}
+use Rattle.ordinates.proofs.crossing.Tie as tie
 
 returns : tie.Need-returns
 returns c = sym (none-crossing _ _ (c .before .crossings .ensures (c .if1 .taken)))

@@ -7,10 +7,10 @@ use Rattle.exact.proofs.Held.{got}
 use Rattle.words.specs.Words.{wordAt}
 use Rattle.model.specs.Refusals.{crosses, signs}
 use Rattle.words.specs.Fields.{itemMisfit, misfit}
-use Rattle.limits.proofs.Pieces.{piece}
+use Rattle.ordinates.proofs.Pieces.{piece}
 use Rattle.limits.proofs.Scans.{Searched, search-begins, search-goes-on, search-found, search-over}
-use Rattle.limits.proofs.lines.first_crossing.Statement.{statement}
-use Rattle.limits.proofs.lines.first_crossing.Tie as tie
+use Rattle.ordinates.proofs.first_crossing.Statement.{statement}
+use Rattle.ordinates.proofs.first_crossing.Tie as tie
 
 abbrev Inv-loop : tie.InvT-loop
 Inv-loop s pieces i₀ i = Searched (itemMisfit (signs pieces .fields) s) pieces i

@@ -8,9 +8,9 @@ use mir.Val.{toZ, ofZ}
 use Rattle.exact.proofs.Held.{back}
 use Rattle.words.specs.Words.{wordAt}
 use Rattle.model.specs.Refusals.{crosses}
 use Rattle.limits.proofs.Scans.{Tally, tally-begins, tally-more}
-use Rattle.limits.proofs.lines.crossings.Statement.{statement}
-use Rattle.limits.proofs.lines.crossings.Tie as tie
+use Rattle.ordinates.proofs.crossings.Statement.{statement}
+use Rattle.ordinates.proofs.crossings.Tie as tie
 
 abbrev Inv-loop : tie.InvT-loop
 Inv-loop s pieces sum₀ i₀ sum i = Tally (λ j. crosses (wordAt s (2 * j)) (wordAt s (2 * j + 1)) ≡ false) sum i
