@@ -9,20 +9,21 @@ use Rattle.model.specs.Refusals.{verdict}
 use Rattle.model.specs.Answered.{Answered, refused, accepted, zeroAccount}
 use Rattle.model.specs.Determined.{Fixed, fixedOf}
 use Rattle.model.proofs.Determined.{determined}
+use Rattle.model.proofs.RefusalNumbers.{number-small}
 use Rattle.model.specs.declared.Answer.{Answer}
 use Rattle.numbers.specs.NumberBytes.{numbersBytes}
 use Rattle.encode.specs.Encoding.{accountSize, accountBytes}
 use Rattle.host.specs.Hosted.{packed, Hosted, short, answered}
-use Rattle.model.proofs.Places.{refusal-small, answer-small}
 
 -- number and place come apart again, as the header takes them
 pub taken-apart : {b before after : List ℕ} {a : Answer} → Answered b before a after → (packed (a .refusal) (a .place) % 256 ≡ a .refusal) × (packed (a .refusal) (a .place) / 256 ≡ a .place)
-taken-apart r = let s = answer-small r in omega arith
+taken-apart {b} {before} (refused r v u p) = let s = number-small b (length before) v in rw u (omega arith)
+taken-apart (accepted v r) = omega (arith, r .refusal, r .place)
 
 -- 0 is acceptance, and only that
 pub zero-accepts : {job patch account p a : List ℕ} → Hosted job patch account 0 p a → (accountSize ≤ length account) × (verdict job (length patch) ≡ none)
 zero-accepts (short l e p a) = absurd (omega arith)
-zero-accepts {job} {patch} (answered l x (refused r v u p) e a k) = let s = refusal-small job (length patch) v in absurd (omega (arith, e, ap (λ (y : Answer). y .refusal) u))
+zero-accepts {job} {patch} (answered l x (refused r v u p) e a k) = let s = number-small job (length patch) v in absurd (omega (arith, e, ap (λ (y : Answer). y .refusal) u))
 zero-accepts (answered l x (accepted v r) e a k) = (l, v)
 
 -- the account of a refusal is zero bytes

@@ -12,6 +12,7 @@ use Rattle.exact.specs.Choice.{if_then_else_}
 use Rattle.model.specs.Format.{headerOf, wordsDue}
 use Rattle.model.specs.Refusals.{Refusal, Test, _finds_, refuse, firstRefusal, jobTests, jobVerdict, fault1, fault2, fault3, fault6}
 use Rattle.model.specs.declared.Header.{Header}
+use Rattle.model.proofs.RefusalNumbers.{Rising, job-rising}
 use Rattle.model.proofs.Verdict.{has-header, size-fits}
 use Rattle.sections.specs.Sized.{Counted, Sized}
 use Rattle.job.specs.Rulings.{Rules, testOf, Passed}
@@ -29,11 +30,6 @@ none-found : (tests : List Test) → ((j : ℕ) → j < length tests → getD te
 none-found [] c = refl
 none-found (t ∷ rest) c = ap (λ o. refuse (t .number) o (firstRefusal rest)) (c 0 (omega arith)) ∙ none-found rest (λ j h. c (suc j) (omega arith))
 
--- tests numbered from n on
-abbrev Rising : ℕ → List Test → Type 0
-Rising n [] = Unit {0}
-Rising n (t ∷ rest) = (t .number ≡ n) × Rising (suc n) rest
-
 rising-number : (n : ℕ) (tests : List Test) → Rising n tests → (k : ℕ) → k < length tests → getD tests k (0 finds none) .number ≡ n + k
 rising-number n [] r k h = absurd (omega arith)
 rising-number n (t ∷ rest) r zero h = r .0 ∙ omega arith
@@ -42,7 +38,7 @@ rising-number n (t ∷ rest) r (suc k) h = rising-number (suc n) rest (r .1) k (
 -- each of the job's tests has its number
 numbered : (b : List ℕ) (n : ℕ) → 1 ≤ n → n ≤ 8 → testOf b n .number ≡ n
 unfolding jobTests
-numbered b n l h = rising-number 1 (jobTests b) (refl, (refl, (refl, (refl, (refl, (refl, (refl, (refl, tt)))))))) (n - 1) (omega arith) ∙ omega arith
+numbered b n l h = rising-number 1 (jobTests b) (job-rising b) (n - 1) (omega arith) ∙ omega arith
 
 -- a job without faults 1 to 3 has the bytes that its header calls for
 pub is-sized : (b : List ℕ) {head : Header} → head ≡ headerOf b → fault1 b ≡ none → fault2 b ≡ none → fault3 b ≡ none → Sized b head

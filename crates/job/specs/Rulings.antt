@@ -1,4 +1,4 @@
--- A ruling as the model's refusal.
+-- What a test finds and what is ruled, as the definitions have them.
 use mathlib.Core.Path.{_≡_}
 use Prim.Native.Nat.{ℕ, _-_, _≤_, _<_}
 use mathlib.Core.Option.{Option, none, some}
@@ -9,7 +9,14 @@ use Rattle.exact.specs.Choice.{if_then_else_}
 use Rattle.model.specs.Format.{headerOf}
 use Rattle.model.specs.Refusals.{Refusal, Test, _finds_, jobTests}
 use Rattle.model.specs.declared.Header.{Header}
+use Rattle.job.specs.declared.refusals.Finding.{Finding}
+use Rattle.job.specs.declared.refusals.Finding.the-variants.{At, Nothing}
 use Rattle.job.specs.declared.refusals.Ruling.{Ruling}
+
+-- the place that a test finds, if it finds one
+abbrev pub findingOf : Finding → Option ℕ
+findingOf (At p) = some p
+findingOf Nothing = none
 
 -- number 0 is no refusal
 abbrev pub rulingOf : Ruling → Option Refusal

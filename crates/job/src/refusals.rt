@@ -1,17 +1,17 @@
 // The refusals of a job, each the lowest place at fault, and the verdict.
 ghost use mathlib.Core.Path.{_≡_};
 ghost use mathlib.Core.Option.{none, some};
-ghost use Prim.Native.Nat.{ℕ, _≤_};
+ghost use Prim.Native.Nat.{ℕ, _≤_, _<_};
 ghost use lib.ListN.{length};
 ghost use Rattle.exact.specs.Choice.{orElse};
 ghost use Rattle.words.specs.Fields.{moved};
-ghost use Rattle.model.specs.Format.{headerOf, bytes, start, fault};
+ghost use Rattle.model.specs.Format.{headerOf, bytes, words, start, fault};
 ghost use Rattle.model.specs.Refusals.{fault1, fault2, fault3, fault4, fault5, fault6, rowFault, jobVerdict};
 ghost use Rattle.model.specs.declared.Part.the-variants.{Head, Line};
 ghost use Rattle.sections.specs.Sized.{Counted, Sized};
 ghost use Rattle.limits.specs.Faults.{placeOf};
 ghost use Rattle.job.specs.Defects.{chainPasses};
-ghost use Rattle.job.specs.Rulings.{Rules, testOf, Passed};
+ghost use Rattle.job.specs.Rulings.{findingOf, Rules, testOf, Passed};
 use crate::defects;
 use crate::defects::Defect;
 use limits::Fault;
@@ -19,63 +19,73 @@ use model::Header;
 use model::Part;
 use sections::header;
 
+// What a test finds: a place of the job at fault, or nothing.
+enum Finding {
+    At(u32),
+    Nothing,
+}
+
 // A refusal's number and place; number 0 is acceptance.
 pub struct Ruling {
     pub number: u32,
-    pub place: usize,
+    pub place: u32,
 }
 
 // 1: under 10 words, a byte count not divisible by 4, or word 0 not 1.
-fn frame(s: &[u8]) -> Fault
-    ensures { λ r. ⌜ placeOf r ≡ fault1 (now (s .entry)) ⌝ }
+fn frame(s: &[u8]) -> Finding
+    ensures { λ r. ⌜ findingOf r ≡ fault1 (now (s .entry)) ⌝ }
 {
     if s.len() < 4 * model::HEADER_WORDS {
-        return Fault::At(0);
+        return Finding::At(0);
     }
     if s.len() % 4 != 0 {
-        return Fault::At(0);
+        return Finding::At(0);
     }
     if words::word(s, 0) != 1 {
-        return Fault::At(0);
+        return Finding::At(0);
     }
-    Fault::Clear
+    Finding::Nothing
 }
 
 // 2: a header word outside its limits.
-fn limits(s: &[u8], head: Header) -> Fault
+fn limits(s: &[u8], head: Header) -> Finding
     requires { ⌜ (head ≡ headerOf (now s)) × (bytes Head ≤ length (now s)) ⌝ }
-    ensures { λ r. ⌜ placeOf r ≡ fault2 (now (s .entry)) ⌝ }
+    ensures { λ r. ⌜ findingOf r ≡ fault2 (now (s .entry)) ⌝ }
 {
-    limits::header_misfit(header::section(s, head), head)
+    let own = limits::header_misfit(header::section(s, head), head);
+    match own {
+        Fault::At(p) => Finding::At(p as u32),
+        Fault::Clear => Finding::Nothing,
+    }
 }
 
 // 3: the word count isn't what the header calls for.
-fn count(s: &[u8], head: Header) -> Fault
+fn count(s: &[u8], head: Header) -> Finding
     requires { ⌜ (head ≡ headerOf (now s)) × Counted head ⌝ }
-    ensures { λ r. ⌜ placeOf r ≡ fault3 (now (s .entry)) ⌝ }
+    ensures { λ r. ⌜ findingOf r ≡ fault3 (now (s .entry)) ⌝ }
 {
     let due = sections::words_due(head);
     if s.len() / 4 == due {
-        return Fault::Clear;
+        return Finding::Nothing;
     }
-    Fault::At(due)
+    Finding::At(due as u32)
 }
 
 // A place of a part as a place of the job.
-fn in_job(head: Header, part: Part, own: Fault) -> Fault
-    requires { ⌜ Counted head × ((p : ℕ) → placeOf own ≡ some p → p ≤ 42949672960) ⌝ }
-    ensures { λ r. ⌜ placeOf r ≡ moved (start head part) (placeOf own) ⌝ }
+fn in_job(head: Header, part: Part, own: Fault) -> Finding
+    requires { ⌜ Counted head × ((p : ℕ) → placeOf own ≡ some p → p < words head part) ⌝ }
+    ensures { λ r. ⌜ findingOf r ≡ moved (start head part) (placeOf own) ⌝ }
 {
     match own {
-        Fault::At(p) => Fault::At(sections::start(head, part) + p),
-        Fault::Clear => Fault::Clear,
+        Fault::At(p) => Finding::At((sections::start(head, part) + p) as u32),
+        Fault::Clear => Finding::Nothing,
     }
 }
 
 // The lowest place at fault in a part.
-fn fault(s: &[u8], head: Header, part: Part) -> Fault
+fn fault(s: &[u8], head: Header, part: Part) -> Finding
     requires { ⌜ Sized (now s) head ⌝ }
-    ensures { λ r. ⌜ placeOf r ≡ fault (now (s .entry)) (headerOf (now (s .entry))) part ⌝ }
+    ensures { λ r. ⌜ findingOf r ≡ fault (now (s .entry)) (headerOf (now (s .entry))) part ⌝ }
 {
     in_job(
         head,
@@ -85,47 +95,47 @@ fn fault(s: &[u8], head: Header, part: Part) -> Fault
 }
 
 // The first fault, else the second.
-fn or_else(first: Fault, second: Fault) -> Fault
-    ensures { λ r. ⌜ placeOf r ≡ orElse (placeOf first) (placeOf second) ⌝ }
+fn or_else(first: Finding, second: Finding) -> Finding
+    ensures { λ r. ⌜ findingOf r ≡ orElse (findingOf first) (findingOf second) ⌝ }
 {
     match first {
-        Fault::At(p) => Fault::At(p),
-        Fault::Clear => second,
+        Finding::At(p) => Finding::At(p),
+        Finding::Nothing => second,
     }
 }
 
 // The lowest place at fault in the line, sought only where there is one.
-fn line(s: &[u8], head: Header) -> Fault
+fn line(s: &[u8], head: Header) -> Finding
     requires { ⌜ Sized (now s) head ⌝ }
-    ensures { λ r. ⌜ placeOf r ≡ fault (now (s .entry)) (headerOf (now (s .entry))) Line ⌝ }
+    ensures { λ r. ⌜ findingOf r ≡ fault (now (s .entry)) (headerOf (now (s .entry))) Line ⌝ }
 {
     if ordinates::strays(sections::section(s, head, Part::Line), 5000) == 0 {
-        return Fault::Clear;
+        return Finding::Nothing;
     }
     fault(s, head, Part::Line)
 }
 
 // 4: an ordinate of either line outside its limits.
-fn ordinates(s: &[u8], head: Header) -> Fault
+fn ordinates(s: &[u8], head: Header) -> Finding
     requires { ⌜ Sized (now s) head ⌝ }
-    ensures { λ r. ⌜ placeOf r ≡ fault4 (now (s .entry)) ⌝ }
+    ensures { λ r. ⌜ findingOf r ≡ fault4 (now (s .entry)) ⌝ }
 {
     or_else(line(s, head), fault(s, head, Part::Transverse))
 }
 
 // 5: a piece of the job's line.
-fn signs(s: &[u8], head: Header) -> Fault
+fn signs(s: &[u8], head: Header) -> Finding
     requires { ⌜ Sized (now s) head ⌝ }
-    ensures { λ r. ⌜ placeOf r ≡ fault5 (now (s .entry)) ⌝ }
+    ensures { λ r. ⌜ findingOf r ≡ fault5 (now (s .entry)) ⌝ }
 {
     let own = ordinates::crossing(sections::section(s, head, Part::Line), head.pieces);
     in_job(head, Part::Line, own)
 }
 
 // 6: an effect, row or record word outside its limits.
-fn table(s: &[u8], head: Header) -> Fault
+fn table(s: &[u8], head: Header) -> Finding
     requires { ⌜ Sized (now s) head ⌝ }
-    ensures { λ r. ⌜ placeOf r ≡ fault6 (now (s .entry)) ⌝ }
+    ensures { λ r. ⌜ findingOf r ≡ fault6 (now (s .entry)) ⌝ }
 {
     or_else(
         fault(s, head, Part::Effects),
@@ -134,9 +144,9 @@ fn table(s: &[u8], head: Header) -> Fault
 }
 
 // What the test of a number from 2 to 6 finds, those before it having found nothing.
-fn found(s: &[u8], head: Header, number: u32) -> Fault
+fn found(s: &[u8], head: Header, number: u32) -> Finding
     requires { ⌜ Passed (now s) head number × (number ≤ 6) ⌝ }
-    ensures { λ r. ⌜ placeOf r ≡ testOf (now (s .entry)) number .found ⌝ }
+    ensures { λ r. ⌜ findingOf r ≡ testOf (now (s .entry)) number .found ⌝ }
 {
     match number {
         2 => limits(s, head),
@@ -148,9 +158,9 @@ fn found(s: &[u8], head: Header, number: u32) -> Fault
 }
 
 // The first row whose chain has a defect.
-fn defective(s: &[u8], head: Header, defect: Defect) -> Fault
+fn defective(s: &[u8], head: Header, defect: Defect) -> Finding
     requires { ⌜ Sized (now s) head × (fault6 (now s) ≡ none) ⌝ }
-    ensures { λ r. ⌜ placeOf r ≡ rowFault (now (s .entry)) (chainPasses defect (now (s .entry))) ⌝ }
+    ensures { λ r. ⌜ findingOf r ≡ rowFault (now (s .entry)) (chainPasses defect (now (s .entry))) ⌝ }
 {
     in_job(head, Part::Rows, defects::first_row(s, head, defect))
 }
@@ -162,9 +172,9 @@ fn by_chains(s: &[u8], head: Header) -> Ruling
     ensures { λ r. ⌜ Rules r (jobVerdict (now (s .entry))) ⌝ }
 {
     let repeating = defective(s, head, Defect::Repeat);
-    if let Fault::At(row) = repeating {
+    if let Finding::At(row) = repeating {
         let returning = defective(s, head, Defect::Return);
-        if let Fault::At(place) = returning {
+        if let Finding::At(place) = returning {
             return Ruling { number: 7, place };
         }
         return Ruling {
@@ -183,13 +193,13 @@ pub fn verdict(s: &[u8]) -> Ruling
     ensures { λ r. ⌜ Rules r (jobVerdict (now (s .entry))) ⌝ }
 {
     let first = frame(s);
-    if let Fault::At(place) = first {
+    if let Finding::At(place) = first {
         return Ruling { number: 1, place };
     }
     let head = header::read(s);
     for number in 2..7 {
         let fault = found(s, head, number);
-        if let Fault::At(place) = fault {
+        if let Finding::At(place) = fault {
             return Ruling { number, place };
         }
     }

@@ -37,7 +37,7 @@ fn no_traffic() -> Traffic
 }
 
 // The answer of a refusal.
-fn refused(number: u32, place: usize) -> Answer
+fn refused(number: u32, place: u32) -> Answer
     ensures { λ r. ⌜ r ≡ refusalAnswer (record { number = number; place = place }) ⌝ }
 {
     let none = no_traffic();
@@ -72,7 +72,8 @@ pub fn solve(job: &[u8], patch: &mut [u8]) -> Answer
     }
     let head = header::read(job);
     if patch.len() < head.pieces {
-        return refused(9, head.pieces);
+        let n = head.pieces as u32;
+        return refused(9, n);
     }
     let a = accepted::account(job, head);
     pieces::mark(sections::section(job, head, Part::Line), head.pieces, patch);

@@ -8,7 +8,7 @@ pub mod Verdict
 pub mod HeaderLimits
 pub mod LineLimits
 pub mod TableLimits
-pub mod Places
+pub mod RefusalNumbers
 pub mod Accepted
 pub mod Lanes
 pub mod Signs

@@ -79,7 +79,7 @@ fn put_account(out: &mut [u8], a: Account) -> usize
 }
 
 // The line of a refused job.
-fn put_refusal(out: &mut [u8], number: u32, place: usize) -> usize
+fn put_refusal(out: &mut [u8], number: u32, place: u32) -> usize
     requires { ⌜ 384 ≤ length (now out) ⌝ }
     ensures { λ r. ⌜ Stored (now (out .entry)) 0 (refusalLine number place) (now (out .exit)) r ⌝ }
     ensures { λ r. ⌜ r ≤ 384 ⌝ }

@@ -2,11 +2,11 @@
 use mathlib.Core.Path.{_≡_, sym, _∙_, ap, ap₂, subst}
 use mathlib.Core.Option.{none}
 use mathlib.Core.List.{List}
-use Prim.Native.Nat.{ℕ, _+_, _-_, _*_, _/_, _≤_, _<_}
-use native.Mathlib.Nat.{div-lt-iff-lt-mul, mul-le-mul}
+use Prim.Native.Nat.{ℕ, _+_, _-_, _*_, _≤_, _<_}
+use native.Mathlib.Nat.{div-lt-iff-lt-mul}
 use native.Mathlib.Omega.{arith}
 use lib.ListN.{take, drop, length}
-use Rattle.model.specs.Format.{headerOf, words, start, wordsDue, section, sectionOf}
+use Rattle.model.specs.Format.{headerOf, spaces, words, start, wordsDue, section, sectionOf}
 use Rattle.model.specs.declared.Header.{Header}
 use Rattle.model.specs.declared.Part.{Part}
 use Rattle.model.specs.declared.Part.the-variants.{Head, Line, Transverse, Effects, Rows, Records}
@@ -16,33 +16,29 @@ use Rattle.model.proofs.Sections.{section-length}
 use Rattle.model.proofs.Verdict.{part-inside}
 use Rattle.sections.specs.Sized.{Counted, Sized}
 
--- a job without fault 2 has counts, and a spacing to divide by
+-- a job without fault 2 has its counts within their limits
 pub counted : (b : List ℕ) → fault2 b ≡ none → Counted (headerOf b)
 counted b e =
     let f = header-fits b e in
     record {
-      pieces = omega (arith, f .pieces .most);
+      pieces = f .pieces .most;
       spaced = omega (arith, f .spacing .least);
-      spacing = omega (arith, f .spacing .most);
-      width = omega (arith, f .wide .most);
-      effects = omega (arith, f .effects .most);
-      rows = omega (arith, f .rows .most);
-      records = omega (arith, f .records .most);
+      spacing = f .spacing .most;
+      width = f .wide .most;
+      effects = f .effects .most;
+      rows = f .rows .most;
+      records = f .records .most;
     }
 
--- the spaces of any counts are a count
-pub few-spaces : (w g : ℕ) → 0 < g → g ≤ 2147483648 → w ≤ 2147483648 → (w + g - 1) / g < 4294967296
-few-spaces w g p h k = let l : w + g - 1 < 4294967296 * g = omega arith in div-lt-iff-lt-mul p .1 l
-
--- a product of bounded numbers
-pub product : {a b m n : ℕ} → a ≤ m → b ≤ n → a * b ≤ m * n
-product h k = mul-le-mul h k
+-- there are no more spaces than cm
+pub few-spaces : {head : Header} → Counted head → spaces (head .width) (head .spacing) < 2080
+few-spaces {head} c = let l : head .width + head .spacing - 1 < 2080 * head .spacing = omega (arith, c .spaced, c .width) in div-lt-iff-lt-mul (c .spaced) .1 l
 
 -- no part has more words than its counts allow
-pub few-words : (head : Header) (part : Part) → Counted head → {p : ℕ} → p < words head part → p ≤ 42949672960
+pub few-words : (head : Header) (part : Part) → Counted head → {p : ℕ} → p < words head part → p ≤ 20800
 few-words head Head c h = omega arith
 few-words head Line c h = omega arith
-few-words head Transverse c h = let s = few-spaces (head .width) (head .spacing) (c .spaced) (c .spacing) (c .width) in omega arith
+few-words head Transverse c h = let s = few-spaces c in omega arith
 few-words head Effects c h = omega arith
 few-words head Rows c h = omega arith
 few-words head Records c h = omega arith
@@ -54,7 +50,7 @@ cut b {m} {n} e f =
     ap (λ (x : ℕ). take x (drop (4 * m) b)) g ∙ ap₂ (λ (x y : ℕ). take (4 * y) (drop (4 * x) b)) e f
 
 module _ {b : List ℕ} {head : Header} (z : Sized b head) where
-  -- its header's counts are counts
+  -- its header's counts are within their limits
   pub counts : Counted head
   counts = subst Counted (sym (z .own)) (counted b (z .within))
 

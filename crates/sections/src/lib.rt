@@ -26,7 +26,7 @@ pub fn item_words(head: Header, part: Part) -> usize
 // The number of items.
 pub fn items(head: Header, part: Part) -> usize
     requires { ⌜ Counted head ⌝ }
-    ensures { λ r. ⌜ (r ≡ format head part .items) × (r ≤ 4294967296) ⌝ }
+    ensures { λ r. ⌜ (r ≡ format head part .items) × (r ≤ 2080) ⌝ }
 {
     match part {
         Part::Head => 1,
@@ -45,7 +45,7 @@ pub fn items(head: Header, part: Part) -> usize
 // A part's words.
 fn words(head: Header, part: Part) -> usize
     requires { ⌜ Counted head ⌝ }
-    ensures { λ r. ⌜ (r ≡ words head part) × (r ≤ 42949672960) ⌝ }
+    ensures { λ r. ⌜ (r ≡ words head part) × (r ≤ 20800) ⌝ }
 {
     item_words(head, part) * items(head, part)
 }
@@ -53,7 +53,7 @@ fn words(head: Header, part: Part) -> usize
 // Each part starts where the one before it ends.
 pub fn start(head: Header, part: Part) -> usize
     requires { ⌜ Counted head ⌝ }
-    ensures { λ r. ⌜ (r ≡ start head part) × (r ≤ 214748364800) ⌝ }
+    ensures { λ r. ⌜ (r ≡ start head part) × (r ≤ 104000) ⌝ }
 {
     let line = words(head, Part::Head);
     let transverse = line + words(head, Part::Line);
@@ -73,7 +73,7 @@ pub fn start(head: Header, part: Part) -> usize
 // The word count that the header calls for.
 pub fn words_due(head: Header) -> usize
     requires { ⌜ Counted head ⌝ }
-    ensures { λ r. ⌜ (r ≡ wordsDue head) × (r ≤ 257698037760) ⌝ }
+    ensures { λ r. ⌜ (r ≡ wordsDue head) × (r ≤ 124800) ⌝ }
 {
     start(head, Part::Records) + words(head, Part::Records)
 }

@@ -28,7 +28,7 @@ item-fits (admits ∷ rest) j item e (suc q) h =
     let z : misfitFrom (suc j) rest item ≡ none = by-test (admits item (item .word j)) (λ t. (if t then misfitFrom (suc j) rest item else some j) ≡ none → misfitFrom (suc j) rest item ≡ none) (λ _ z. z) (λ _ z. absurd (Option·some-ne-none j z)) e in
     rw f at (item-fits rest (suc j) item z q (omega arith))
 
-item-below : (fields : List Field) (j : ℕ) (item : Item) (r : ℕ) → misfitFrom j fields item ≡ some r → r < j + length fields
+pub item-below : (fields : List Field) (j : ℕ) (item : Item) (r : ℕ) → misfitFrom j fields item ≡ some r → r < j + length fields
 item-below [] j item r e = absurd (Option·none-ne-some r e)
 item-below (admits ∷ rest) j item r e =
     by-test (admits item (item .word j)) (λ t. (if t then misfitFrom (suc j) rest item else some j) ≡ some r → r < j + length (admits ∷ rest))
@@ -61,7 +61,7 @@ pub moved-none : (start : ℕ) (o : Option ℕ) → moved start o ≡ none → o
 moved-none start none e = refl
 moved-none start (some p) e = absurd (Option·some-ne-none _ e)
 
-pub moved-below : (start n r : ℕ) (o : Option ℕ) → ((p : ℕ) → o ≡ some p → p < n) → moved start o ≡ some r → r < start + n
+moved-below : (start n r : ℕ) (o : Option ℕ) → ((p : ℕ) → o ≡ some p → p < n) → moved start o ≡ some r → r < start + n
 moved-below start n r none h e = absurd (Option·none-ne-some r e)
 moved-below start n r (some p) h e = let l = h p refl in let g = Option·some-injective (start + p) r e in omega arith
 

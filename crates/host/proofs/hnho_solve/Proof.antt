@@ -2,7 +2,6 @@ use mathlib.Core.Path.{refl}
 use native.Mathlib.Omega.{arith}
 use borrow.Author.Needs.{needs}
 use Rattle.host.specs.Hosted.{short, answered}
-use Rattle.model.proofs.Places.{answer-small}
 use Rattle.host.proofs.Counts.{counts-fit}
 use Rattle.host.proofs.hnho_solve.Statement.{statement}
 use Rattle.host.proofs.hnho_solve.Tie as tie
@@ -15,18 +14,13 @@ write-requires c κs =
     let a = c .before .before .before .before .solve in
     (omega arith, counts-fit (a .ensures))
 
-mul-result : tie.Need-mul-result
-mul-result c = omega (arith, answer-small (c .before .before .before .before .before .before .before .before .solve .ensures))
-
-add-result : tie.Need-add-result
-add-result c = omega (arith, answer-small (c .before .before .before .before .before .before .before .before .solve .ensures))
-
 returns-2 : tie.Need-returns-2
 returns-2 c =
-    let a = c .before .before .before .before .before .before .before .before .solve in
-    answered (omega (arith, c .before .before .before .before .before .before .before .before .before .before .if1 .left)) (a .result) (a .ensures) refl (c .before .before .before .write .ensures .0) (c .before .before .before .write .ensures .1)
+    let w = c .before .before .before .before in
+    let a = w .before .before .before .before .before .solve in
+    answered (omega (arith, w .before .before .before .before .before .before .before .if1 .left)) (a .result) (a .ensures) refl (w .write .ensures .0) (w .write .ensures .1)
 
 pub hnho-solve-spec : {M : Type 1} → statement M
 hnho-solve-spec =
     tie.close
-    (tie.spec (λ c κs. search needs) (λ c. search needs) returns (λ c κs. search needs) write-requires (λ c. search needs) mul-result add-result (λ c. search needs) (λ c. search needs) returns-2)
+    (tie.spec (λ c κs. search needs) (λ c. search needs) returns (λ c κs. search needs) write-requires (λ c. search needs) (λ c. search needs) (λ c. search needs) (λ c. search needs) (λ c. search needs) (λ c. search needs) returns-2)

@@ -17,6 +17,7 @@ use Rattle.model.specs.declared.Account.{Account}
 use Rattle.model.specs.declared.Header.{Header}
 use Rattle.model.specs.declared.Part.the-variants.{Line}
 use Rattle.model.proofs.Verdict.{clear, has-header, job-refuses, short-refused, long-accepted}
+use Rattle.sections.proofs.Sizes.{counts}
 use Rattle.job.specs.declared.refusals.Ruling.{Ruling}
 use Rattle.pair.specs.LineFits.{LineFits}
 use Rattle.line.proofs.Fitting.{fits-fewer}
@@ -56,8 +57,8 @@ module _ (c : tie.After-read) where
 
 returns-2 : tie.Need-returns-2
 returns-2 c =
-    let d = c .before .before .before in
-    refused _ (short-refused _ _ (ready d .accepted) (omega (arith, pieces d, c .before .if2 .taken))) (c .refused2 .ensures ∙ ap (λ n. refusalAnswer (record { number = 9; place = n })) (pieces d)) refl
+    let d = c .before .before .before .before in
+    refused _ (short-refused _ _ (ready d .accepted) (omega (arith, pieces d, c .before .before .if2 .taken))) (c .refused2 .ensures ∙ ap (λ n. refusalAnswer (record { number = 9; place = n })) (pieces d)) refl
 
 -- the account with its patch bytes written is the whole answer
 answers : {b before after line : List ℕ} {head : Header} (r : Ready b head) → line ≡ sectionOf b Line → after ≡ patchBytes (influenceLine line (headerOf b .h) (head .pieces)) ++ drop (head .pieces) before →
@@ -94,4 +95,4 @@ returns-3 c =
 pub solve-spec : {M : Type 1} → statement M
 solve-spec =
     tie.close
-    (tie.spec (λ c κs. search needs) (λ c κs. search needs) returns read-requires (λ c κs. search needs) returns-2 (λ c κs. ready (c .before .before)) section-requires mark-requires (λ c. search needs) returns-3)
+    (tie.spec (λ c κs. search needs) (λ c κs. search needs) returns read-requires (λ c. omega (arith, counts (sized (ready (c .before .before .before))) .pieces)) (λ c κs. search needs) returns-2 (λ c κs. ready (c .before .before)) section-requires mark-requires (λ c. search needs) returns-3)

@@ -1,7 +1,7 @@
 use mathlib.Core.Path.{refl, sym, _∙_, ap}
 use native.Mathlib.Omega.{arith}
 use Rattle.model.specs.Refusals.{jobTests, fault7}
-use Rattle.limits.specs.Faults.{placeOf}
+use Rattle.job.specs.Rulings.{findingOf}
 use Rattle.job.proofs.Linked.{none-returns, repeats-alone}
 use Rattle.job.proofs.Rulings.{table-there, ruled, refuses, goes-on, accepts}
 use borrow.Author.Needs.{needs}
@@ -22,14 +22,14 @@ returns : tie.Need-returns
 unfolding jobTests fault7
 returns c =
     let k = c .before .before .before in
-    ruled 7 _ (omega arith) (refuses (first k .before .before .pre) (omega arith) _ (sym (k .defective2 .ensures) ∙ ap placeOf (c .before .returning .given .1)))
+    ruled 7 _ (omega arith) (refuses (first k .before .before .pre) (omega arith) _ (sym (k .defective2 .ensures) ∙ ap findingOf (c .before .returning .given .1)))
 
 returns-2 : tie.Need-returns-2
 unfolding jobTests fault7
 returns-2 c =
     let k = c .before .before in
-    let c7 = sym (k .defective2 .ensures) ∙ ap placeOf (c .enum-told .given .1) in
-    let c8 = repeats-alone _ c7 ∙ sym (first k .defective .ensures) ∙ ap placeOf (k .before .before .repeating .given .1) in
+    let c7 = sym (k .defective2 .ensures) ∙ ap findingOf (c .enum-told .given .1) in
+    let c8 = repeats-alone _ c7 ∙ sym (first k .defective .ensures) ∙ ap findingOf (k .before .before .repeating .given .1) in
     ruled 8 _ (omega arith) (refuses (goes-on (first k .before .before .pre) c7) (omega arith) _ c8)
 
 returns-3 : tie.Need-returns-3
@@ -38,7 +38,7 @@ returns-3 c =
     let k = c .before .before in
     let p = k .before .before .pre in
     let t = table-there p (omega arith) in
-    let r = sym (k .defective .ensures) ∙ ap placeOf (c .enum-told2 .given .1) in
+    let r = sym (k .defective .ensures) ∙ ap findingOf (c .enum-told2 .given .1) in
     let c7 = none-returns _ (t .0) (t .1) r in
     record { says = sym (accepts (goes-on (goes-on p c7) (repeats-alone _ c7 ∙ r)) (omega arith)); blank = λ _. refl }
 

@@ -1,6 +1,7 @@
 use mathlib.Core.Path.{_≡_, refl, sym, _∙_, ap}
 use mathlib.Core.Option.{some}
 use Prim.Native.Nat.{_/_}
+use native.Mathlib.Omega.{arith}
 use lib.ListN.{length}
 use borrow.Author.Tests.{eq-eqb, ne-eqb}
 use Rattle.model.specs.Format.{headerOf, wordsDue}
@@ -24,4 +25,4 @@ returns-2 c =
     rw (ne-eqb (length b / 4) (wordsDue (headerOf b)) (λ e. c .if1 .left (e ∙ sym (due (c .before))))) (ap some (due (c .before)))
 
 pub count-spec : {M : Type 1} → statement M
-count-spec = tie.close (tie.spec (λ c κs. search needs) returns returns-2)
+count-spec = tie.close (tie.spec (λ c κs. search needs) returns (λ c. omega (arith, c .before .words-due .ensures .1)) returns-2)

@@ -7,7 +7,7 @@ use Rattle.model.specs.declared.Header.{Header}
 use Rattle.model.specs.declared.Part.the-variants.{Rows}
 use Rattle.words.proofs.Fits.{below}
 use Rattle.job.specs.Defects.{firstDefective}
-use Rattle.sections.proofs.Sizes.{counts, few-words}
+use Rattle.sections.proofs.Sizes.{counts}
 use borrow.Author.Needs.{needs}
 use Rattle.job.proofs.refusals.defective.Statement.{statement}
 use Rattle.job.proofs.refusals.defective.Tie as tie
@@ -15,7 +15,7 @@ use Rattle.job.proofs.refusals.defective.Tie as tie
 in-job-requires : tie.Need-in-job-requires
 in-job-requires c κs =
     let st = c .before .before in
-    (counts (st .pre .0), λ p e. few-words (st .args .head) Rows (counts (st .pre .0)) (subst (λ (h : Header). p < words h Rows) (sym (st .pre .0 .own)) (below (rowTests (headerOf (st .args .s .now) .rows) _) _ p (sym (c .first-row .ensures) ∙ e))))
+    (counts (st .pre .0), λ p e. subst (λ (h : Header). p < words h Rows) (sym (st .pre .0 .own)) (below (rowTests (headerOf (st .args .s .now) .rows) _) _ p (sym (c .first-row .ensures) ∙ e)))
 
 returns : tie.Need-returns
 returns c =

@@ -5,7 +5,7 @@ use Rattle.words.specs.Fields.{moved, misfit}
 use Rattle.model.specs.Format.{format, words, start, sectionOf}
 use Rattle.model.specs.declared.Header.{Header}
 use Rattle.words.proofs.Fits.{below}
-use Rattle.sections.proofs.Sizes.{counts, part-length, few-words}
+use Rattle.sections.proofs.Sizes.{counts, part-length}
 use borrow.Author.Needs.{needs}
 use Rattle.job.proofs.refusals.fault.Statement.{statement}
 use Rattle.job.proofs.refusals.fault.Tie as tie
@@ -18,7 +18,7 @@ misfit-requires c κs =
 in-job-requires : tie.Need-in-job-requires
 in-job-requires c κs =
     let st = c .before .before .before in
-    (counts (st .pre), λ p e. few-words (st .args .head) (st .args .part) (counts (st .pre)) (below (format (st .args .head) (st .args .part)) _ p (sym (c .misfit .ensures) ∙ e)))
+    (counts (st .pre), λ p e. below (format (st .args .head) (st .args .part)) _ p (sym (c .misfit .ensures) ∙ e))
 
 returns : tie.Need-returns
 returns c =

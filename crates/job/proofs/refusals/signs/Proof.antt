@@ -6,21 +6,20 @@ use Rattle.model.specs.Format.{start, sectionOf}
 use Rattle.model.specs.Refusals.{signs, fault5}
 use Rattle.model.specs.declared.Header.{Header}
 use Rattle.model.specs.declared.Part.the-variants.{Line}
-use Rattle.model.proofs.HeaderLimits.{header-fits}
 use Rattle.words.proofs.Fits.{below}
-use Rattle.sections.proofs.Sizes.{counts, part-length, few-words}
+use Rattle.sections.proofs.Sizes.{counts, part-length}
 use Rattle.job.proofs.refusals.signs.Statement.{statement}
 use Rattle.job.proofs.refusals.signs.Tie as tie
 
 crossing-requires : tie.Need-crossing-requires
 crossing-requires c κs =
     let st = c .before .before in
-    omega (arith, ap length (c .section .ensures), part-length (st .pre) Line, ap (λ (h : Header). h .pieces) (st .pre .own), header-fits _ (st .pre .within) .pieces .most)
+    omega (arith, ap length (c .section .ensures), part-length (st .pre) Line, ap (λ (h : Header). h .pieces) (st .pre .own), counts (st .pre) .pieces)
 
 in-job-requires : tie.Need-in-job-requires
 in-job-requires c κs =
     let st = c .before .before .before in
-    (counts (st .pre), λ p e. few-words (st .args .head) Line (counts (st .pre)) (below (signs (st .args .head .pieces)) _ p (sym (c .crossing .ensures) ∙ e)))
+    (counts (st .pre), λ p e. below (signs (st .args .head .pieces)) _ p (sym (c .crossing .ensures) ∙ e))
 
 returns : tie.Need-returns
 unfolding fault5

@@ -2,8 +2,7 @@ use mathlib.Core.Path.{_≡_, sym, _∙_, ap, subst}
 use Prim.Native.Nat.{_-_, _≤_}
 use native.Mathlib.Omega.{arith}
 use Rattle.model.proofs.Verdict.{has-header}
-use Rattle.limits.specs.Faults.{placeOf}
-use Rattle.job.specs.Rulings.{Passed}
+use Rattle.job.specs.Rulings.{findingOf, Passed}
 use Rattle.job.proofs.Rulings.{begins, ruled, frame-refuses, refuses, goes-on}
 use borrow.Author.Needs.{needs}
 use Rattle.job.proofs.refusals.verdict.Statement.{statement}
@@ -16,22 +15,22 @@ abbrev μ-loop : tie.MeasureT-loop
 μ-loop s head number₀ number = 7 - number
 
 returns : tie.Need-returns Inv-loop μ-loop
-returns c = let k = c .before .before .before in frame-refuses _ _ (sym (k .frame .ensures) ∙ ap placeOf (c .before .first .given .1))
+returns c = let k = c .before .before .before in frame-refuses _ _ (sym (k .frame .ensures) ∙ ap findingOf (c .before .first .given .1))
 
 read-requires : tie.Need-read-requires Inv-loop μ-loop
-read-requires c κs = has-header _ (sym (c .before .before .frame .ensures) ∙ ap placeOf (c .enum-told .given .1))
+read-requires c κs = has-header _ (sym (c .before .before .frame .ensures) ∙ ap findingOf (c .enum-told .given .1))
 
 loop-holds : tie.Need-loop-holds Inv-loop μ-loop
-loop-holds c = (begins (c .read .ensures) (sym (c .before .before .before .frame .ensures) ∙ ap placeOf (c .before .enum-told .given .1)), omega arith)
+loop-holds c = (begins (c .read .ensures) (sym (c .before .before .before .frame .ensures) ∙ ap findingOf (c .before .enum-told .given .1)), omega arith)
 
 returns-2 : tie.Need-returns-2 Inv-loop μ-loop
 returns-2 c =
     let k = c .before .before .before in
     let inv = k .before .before .loop .inv in
-    ruled _ _ (omega (arith, inv .0 .first)) (refuses (inv .0) (omega arith) _ (sym (k .found .ensures) ∙ ap placeOf (c .before .fault .given .1)))
+    ruled _ _ (omega (arith, inv .0 .first)) (refuses (inv .0) (omega arith) _ (sym (k .found .ensures) ∙ ap findingOf (c .before .fault .given .1)))
 
 loop-again : tie.Need-loop-again Inv-loop μ-loop
-loop-again c = let k = c .before .before in (goes-on (k .before .before .loop .inv .0) (sym (k .found .ensures) ∙ ap placeOf (c .enum-told2 .given .1)), omega arith)
+loop-again c = let k = c .before .before in (goes-on (k .before .before .loop .inv .0) (sym (k .found .ensures) ∙ ap findingOf (c .enum-told2 .given .1)), omega arith)
 
 by-chains-requires : tie.Need-by-chains-requires Inv-loop μ-loop
 by-chains-requires c κs = let e : c .before .loop .number ≡ 7 = omega arith in subst (Passed _ _) e (c .before .loop .inv .0)
