@@ -22,6 +22,7 @@ header-misfit-requires c κs =
     let h = st .pre .1 in
     omega (arith, ap length (c .section .ensures), section-length (st .args .s .now) (st .args .head) Head (omega arith))
 
+-- the header's place at fault is the job's
 found : (c : tie.After-header-misfit) → placeOf (c .header-misfit .result) ≡ fault2 (c .before .before .before .args .s .now)
 unfolding fault2 misfit
 found c =
@@ -31,6 +32,7 @@ found c =
     ∙ sym (only-item _)
     ∙ ap (λ (head : Header). faultIn (st .args .s .now) head (Head ∷ [])) (st .pre .0)
 
+-- and one of its ten words
 small : (c : tie.After-own) → c .own .given .0 .0 < 10
 small c = let k = c .before .before in item-below (format (k .before .before .before .args .head) Head .fields) 0 (itemFrom (k .before .section .result .now) 0 0) _ (sym (k .header-misfit .ensures) ∙ ap placeOf (c .own .given .1))
 
