@@ -8,6 +8,8 @@ use native.Mathlib.Omega.{arith}
 use lib.Dec.{eqb}
 use lib.ListN.{length, getD, set, replicate, length-set, getD-replicate}
 use lib.Seq.{getD-set-same, getD-set-other}
+use Rattle.model.specs.Format.{bytes}
+use Rattle.model.specs.declared.Part.the-variants.{Records}
 use borrow.Author.Tests.{eq-eqb, ne-eqb}
 use Rattle.exact.specs.Ranges.{anyTo}
 use Rattle.exact.proofs.Bridge.{by-test}
@@ -17,7 +19,7 @@ use Rattle.model.proofs.Chains.{Bounded, ended, long-repeats}
 use Rattle.chains.specs.Linked.{Linked}
 
 -- a section of n records, whose chains stay in it
-pub stays : {s : List ℕ} {n c : ℕ} → Linked s → 12 * c ≤ length s → length s ≡ 12 * n → Bounded s n c
+pub stays : {s : List ℕ} {n c : ℕ} → Linked s → bytes Records * c ≤ length s → length s ≡ bytes Records * n → Bounded s n c
 stays l h e = record { first = omega arith; next = λ c m k. omega (arith, l c m (omega arith)) }
 
 -- a walk from the next record is a step ahead

@@ -12,7 +12,7 @@ use Rattle.exact.specs.Choice.{if_then_else_}
 use Rattle.exact.proofs.Bridge.{by-test}
 use Rattle.words.specs.Words.{countAt}
 use Rattle.words.specs.Fields.{moved, misfit}
-use Rattle.model.specs.Format.{headerOf, start, sectionOf}
+use Rattle.model.specs.Format.{headerOf, start, sectionOf, size, bytes}
 use Rattle.model.specs.Chains.{nextRecord, walk, returns}
 use Rattle.model.specs.Decode.{firstRecord}
 use Rattle.model.specs.Refusals.{rowTests, rowFault, chainNamesTwice, fault6, fault7, fault8}
@@ -38,15 +38,15 @@ returns-test s n f m =
     (λ t. sym (ap not (eq-eqb (walk s f n) 0 (chain-ends s n f m t))))
 
 -- row i's first record as the code reads it, i counting from 0
-pub first-is : (b : List ℕ) (i : ℕ) {rows : List ℕ} {f : ℕ} → rows ≡ sectionOf b Rows → f ≡ countAt rows (4 * i + 3) → f ≡ firstRecord (sectionOf b Rows) (i + 1)
+pub first-is : (b : List ℕ) (i : ℕ) {rows : List ℕ} {f : ℕ} → rows ≡ sectionOf b Rows → f ≡ countAt rows (size Rows * i + 3) → f ≡ firstRecord (sectionOf b Rows) (i + 1)
 first-is b i e g =
-    let k : 4 * i + 3 ≡ 4 * (i + 1 - 1) + 3 = omega arith in
-    g ∙ ap (λ (rows : List ℕ). countAt rows (4 * i + 3)) e ∙ ap (countAt (sectionOf b Rows)) k
+    let k : size Rows * i + 3 ≡ size Rows * (i + 1 - 1) + 3 = omega arith in
+    g ∙ ap (λ (rows : List ℕ). countAt rows (size Rows * i + 3)) e ∙ ap (countAt (sectionOf b Rows)) k
 
 -- tests that pass the same rows find the same
 rows-same : (b : List ℕ) {p q : ℕ → Bool} → ((i : ℕ) → i < headerOf b .rows → p i ≡ q i) → rowFault b p ≡ rowFault b q
 unfolding misfit
-rows-same b h = ap (moved (start (headerOf b) Rows)) (answer-same 0 (headerOf b .rows) _ _ (λ i _ l. ap (λ (t : Bool). moved (4 * i) (if t then none else some 0)) (h i (omega arith))))
+rows-same b h = ap (moved (start (headerOf b) Rows)) (answer-same 0 (headerOf b .rows) _ _ (λ i _ l. ap (λ (t : Bool). moved (size Rows * i) (if t then none else some 0)) (h i (omega arith))))
 
 -- where no chain comes back, a test for effects named twice alone finds what refusal 8 finds
 pub repeats-alone : (b : List ℕ) → fault7 b ≡ none → fault8 b ≡ rowFault b (chainPasses Repeat b)
@@ -58,7 +58,7 @@ pub passes : (b : List ℕ) (i : ℕ) {records : List ℕ} {f n : ℕ} → recor
 passes b i {f = f} {n = n} e g k defect t = ap not (sym (t ∙ ap (λ (s : List ℕ). isDefective defect s n f) e ∙ ap₂ (isDefective defect (sectionOf b Records)) k g))
 
 module _ (b : List ℕ) {head : Header} (z : Sized b head) where
-  records-long : length (sectionOf b Records) ≡ 12 * headerOf b .records
+  records-long : length (sectionOf b Records) ≡ bytes Records * headerOf b .records
   records-long = let e = part-length z Records in omega arith
 
   module _ (clear : fault6 b ≡ none) where
@@ -78,7 +78,7 @@ module _ (b : List ℕ) {head : Header} (z : Sized b head) where
     -- row i's first record is a record or 0, i counting from 0
     first-most : (i : ℕ) → i < headerOf b .rows → firstRecord (sectionOf b Rows) (i + 1) ≤ headerOf b .records
     first-most i h =
-        let e : 4 * i + 3 ≡ 4 * (i + 1 - 1) + 3 = omega arith in
+        let e : size Rows * i + 3 ≡ size Rows * (i + 1 - 1) + 3 = omega arith in
         subst (λ (k : ℕ). countAt (sectionOf b Rows) k ≤ headerOf b .records) e (row-fits b clear i h .first .most)
 
     -- where no chain names an effect twice, none comes back
@@ -91,7 +91,7 @@ module _ (b : List ℕ) {head : Header} (z : Sized b head) where
 
     -- what the code requires of row i's chain
     pub chain-there : (i : ℕ) → i < headerOf b .rows → {records : List ℕ} {f n : ℕ} → records ≡ sectionOf b Records → f ≡ firstRecord (sectionOf b Rows) (i + 1) → n ≡ headerOf b .records →
-        Linked records × EffectsTo 16 records × (12 * f ≤ length records) × (length records ≡ 12 * n)
+        Linked records × EffectsTo 16 records × (bytes Records * f ≤ length records) × (length records ≡ bytes Records * n)
     chain-there i h e g k =
         let long = ap length e ∙ records-long in
         (subst Linked (sym e) linked, subst (EffectsTo 16) (sym e) effects-few, omega (arith, long, g, first-most i h), omega (arith, long, k))

@@ -7,9 +7,10 @@ use Prim.Native.Nat.{ℕ, zero, suc, _+_, _-_, _*_, _≤_, _<_}
 use native.Mathlib.Decide.{decLe}
 use native.Mathlib.Omega.{arith}
 use lib.ListN.{length, getD}
+use Rattle.model.specs.declared.Part.the-variants.{Head}
 use borrow.Author.Tests.{ne-eqb}
 use Rattle.exact.specs.Choice.{if_then_else_}
-use Rattle.model.specs.Format.{headerOf, wordsDue}
+use Rattle.model.specs.Format.{headerOf, wordsDue, bytes}
 use Rattle.model.specs.Refusals.{Refusal, Test, _finds_, refuse, firstRefusal, jobTests, jobVerdict, fault1, fault2, fault3, fault6}
 use Rattle.model.specs.declared.Header.{Header}
 use Rattle.model.proofs.RefusalNumbers.{Rising, job-rising}
@@ -72,7 +73,7 @@ module _ {b : List ℕ} {head : Header} {number : ℕ} (passed : Passed b head n
   unfolding jobTests
   clear3 h = passed .clear 3 (omega arith) h
 
-  pub header-there : 40 ≤ length b
+  pub header-there : bytes Head ≤ length b
   header-there = has-header b clear1
 
   pub counts-there : 2 < number → Counted head

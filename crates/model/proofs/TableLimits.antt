@@ -13,7 +13,7 @@ use Rattle.exact.specs.Parts.{up}
 use Rattle.exact.proofs.Bridge.{by-test}
 use Rattle.words.specs.Words.{wordAt, countAt}
 use Rattle.words.specs.Fields.{misfit}
-use Rattle.model.specs.Format.{headerOf, is, format, sectionOf}
+use Rattle.model.specs.Format.{headerOf, is, format, sectionOf, size}
 use Rattle.model.specs.Refusals.{rowTests, chainReturns, chainNamesTwice, fault6, fault7, fault8}
 use Rattle.model.specs.declared.Header.{Header}
 use Rattle.model.specs.declared.Part.the-variants.{Effects, Rows, Records}
@@ -22,20 +22,20 @@ use Rattle.words.proofs.Fits.{or-none, moved-none, fits, first-fits}
 
 -- ---- 6: effects, rows and records, item i of each section counting from 0
 pub record EffectFits (s : List ℕ) (i : ℕ) : Type 0 where
-  pub value : Within 1000000000 (wordAt s (2 * i))
-  pub mark : Count 1 2 (wordAt s (2 * i + 1))
+  pub value : Within 1000000000 (wordAt s (size Effects * i))
+  pub mark : Count 1 2 (wordAt s (size Effects * i + 1))
 
 pub record RowFits (s : List ℕ) (records i : ℕ) : Type 0 where
-  pub limit : Count 1 2 (wordAt s (4 * i))
-  pub live : Count 0 2 (wordAt s (4 * i + 1))
-  pub factor : Count 0 3000 (wordAt s (4 * i + 2))
-  pub none : countAt s (4 * i + 1) ≡ 0 → countAt s (4 * i + 2) ≡ 0
-  pub first : Count 0 records (wordAt s (4 * i + 3))
+  pub limit : Count 1 2 (wordAt s (size Rows * i))
+  pub live : Count 0 2 (wordAt s (size Rows * i + 1))
+  pub factor : Count 0 3000 (wordAt s (size Rows * i + 2))
+  pub none : countAt s (size Rows * i + 1) ≡ 0 → countAt s (size Rows * i + 2) ≡ 0
+  pub first : Count 0 records (wordAt s (size Rows * i + 3))
 
 pub record RecordFits (s : List ℕ) (effects records i : ℕ) : Type 0 where
-  pub effect : Count 1 effects (wordAt s (3 * i))
-  pub factor : Count 0 3000 (wordAt s (3 * i + 1))
-  pub next : Count 0 records (wordAt s (3 * i + 2))
+  pub effect : Count 1 effects (wordAt s (size Records * i))
+  pub factor : Count 0 3000 (wordAt s (size Records * i + 1))
+  pub next : Count 0 records (wordAt s (size Records * i + 2))
 
 factor-limit : (live z : ℤ) → live ≡ pos (up live) → between (pos 0) (pos (if is 0 live then 0 else 3000)) z ≡ true → Count 0 3000 z × (up live ≡ 0 → up z ≡ 0)
 factor-limit live z l =
@@ -62,8 +62,8 @@ module _ (b : List ℕ) (clear : fault6 b ≡ none) (i : ℕ) where
   pub row-fits : i < head .rows → RowFits (sectionOf b Rows) (head .records) i
   row-fits h =
       let field = fits (format head Rows) (sectionOf b Rows) (searches .1) i in
-      let live : Count 0 2 (wordAt (sectionOf b Rows) (4 * i + 1)) = between-count 0 2 _ (field 1 h (omega arith)) in
-      let factor = factor-limit (wordAt (sectionOf b Rows) (4 * i + 1)) (wordAt (sectionOf b Rows) (4 * i + 2)) (live .is) (field 2 h (omega arith)) in
+      let live : Count 0 2 (wordAt (sectionOf b Rows) (size Rows * i + 1)) = between-count 0 2 _ (field 1 h (omega arith)) in
+      let factor = factor-limit (wordAt (sectionOf b Rows) (size Rows * i + 1)) (wordAt (sectionOf b Rows) (size Rows * i + 2)) (live .is) (field 2 h (omega arith)) in
       record {
         limit = between-count _ _ _ (first-fits (format head Rows) _ (searches .1) i h (omega arith));
         live = live;

@@ -10,7 +10,7 @@ use lib.ListN.{length, getD}
 use borrow.Author.Tests.{eqb-true, leb-true, le-leb, lt-leb}
 use Rattle.exact.specs.Choice.{orElse}
 use Rattle.words.specs.Words.{wordAt}
-use Rattle.model.specs.Format.{headerOf, is, words, start, wordsDue}
+use Rattle.model.specs.Format.{headerOf, is, words, start, wordsDue, bytes}
 use Rattle.model.specs.Refusals.{Refusal, Test, _finds_, firstRefusal, jobTests, unless, fault1, fault2, fault3, fault4, fault5, fault6, fault7, fault8, fault9, refuse, jobVerdict, verdict}
 use Rattle.model.specs.declared.Part.{Part}
 use Rattle.model.specs.declared.Part.the-variants.{Head, Line, Transverse, Effects, Rows, Records}
@@ -51,16 +51,16 @@ clear b e = let c = all-clear (jobTests b) e in record { c1 = c 0; c2 = c 1; c3 
 
 -- ---- 1 and 3: the size
 -- a job without fault 1 has a header
-pub has-header : (b : List ℕ) → fault1 b ≡ none → 40 ≤ length b
+pub has-header : (b : List ℕ) → fault1 b ≡ none → bytes Head ≤ length b
 unfolding fault1
-has-header b e = leb-true 40 (length b) (and-eq-true-iff (leb 40 (length b)) (eqb (length b % 4) 0) .0 (and-eq-true-iff (leb 40 (length b) && eqb (length b % 4) 0) (is 1 (wordAt b 0)) .0 (unless-none _ 0 e) .0) .0)
+has-header b e = leb-true (bytes Head) (length b) (and-eq-true-iff (leb (bytes Head) (length b)) (eqb (length b % 4) 0) .0 (and-eq-true-iff (leb (bytes Head) (length b) && eqb (length b % 4) 0) (is 1 (wordAt b 0)) .0 (unless-none _ 0 e) .0) .0)
 
 -- a job without fault 1 or 3 has the bytes that its header calls for
 pub size-fits : (b : List ℕ) → fault1 b ≡ none → fault3 b ≡ none → length b ≡ 4 * wordsDue (headerOf b)
 unfolding fault1 fault3
 size-fits b e f =
-    let t = and-eq-true-iff (leb 40 (length b) && eqb (length b % 4) 0) (is 1 (wordAt b 0)) .0 (unless-none _ 0 e) in
-    let u = and-eq-true-iff (leb 40 (length b)) (eqb (length b % 4) 0) .0 (t .0) in
+    let t = and-eq-true-iff (leb (bytes Head) (length b) && eqb (length b % 4) 0) (is 1 (wordAt b 0)) .0 (unless-none _ 0 e) in
+    let u = and-eq-true-iff (leb (bytes Head) (length b)) (eqb (length b % 4) 0) .0 (t .0) in
     let rest = eqb-true (length b % 4) 0 (u .1) in
     let due = eqb-true (length b / 4) (wordsDue (headerOf b)) (unless-none _ (wordsDue (headerOf b)) f) in
     omega arith

@@ -3,12 +3,14 @@ use Prim.Native.Nat.{_-_, _*_, _≤_}
 use native.Mathlib.Omega.{arith}
 use native.Mathlib.Nat.{pos-of-ne-zero}
 use lib.ListN.{length}
+use Rattle.model.specs.Format.{bytes}
+use Rattle.model.specs.declared.Part.the-variants.{Records}
 use Rattle.chains.proofs.Walks.{stays, Walked, walked-none, walked-all, walked-past, walked-twice, walked-on}
 use Rattle.chains.proofs.names_twice.Statement.{statement}
 use Rattle.chains.proofs.names_twice.Tie as tie
 
 abbrev Inv-loop : tie.InvT-loop
-Inv-loop records c count seen₀ at₀ counter₀ seen at counter = (counter ≤ count) × Walked records c counter at seen × (12 * at ≤ length records)
+Inv-loop records c count seen₀ at₀ counter₀ seen at counter = (counter ≤ count) × Walked records c counter at seen × (bytes Records * at ≤ length records)
 
 abbrev μ-loop : tie.MeasureT-loop
 μ-loop records c count seen₀ at₀ counter₀ seen at counter = count - counter

@@ -10,6 +10,8 @@ use Rattle.exact.proofs.Extremes.{by-question}
 use Rattle.model.specs.Decode.{effectAt, termsFrom}
 use Rattle.omissions.specs.ChainTables.{NamesTo}
 use Rattle.omissions.specs.Chained.{chainFor, ChainRight}
+use Rattle.model.specs.Format.{bytes}
+use Rattle.model.specs.declared.Part.the-variants.{Records}
 use Rattle.omissions.proofs.Terms.{terms-none, terms-spent}
 use Rattle.omissions.proofs.Omissions.{terms-named, Sofar, sofar-start, sofar-next, sofar-near, sofar-all}
 use Rattle.omissions.proofs.best.Statement.{statement}
@@ -19,7 +21,7 @@ abbrev Inv-loop : tie.InvT-loop
 Inv-loop effects records first count greatest₀ least₀ c₀ counter₀ greatest least c counter =
     Sofar Greatest (effectAt effects) (termsFrom records count first) (termsFrom records (count - counter) c) counter greatest
     × Sofar Least (effectAt effects) (termsFrom records count first) (termsFrom records (count - counter) c) counter least
-    × (counter ≤ count) × (12 * c ≤ length records)
+    × (counter ≤ count) × (bytes Records * c ≤ length records)
 
 abbrev μ-loop : tie.MeasureT-loop
 μ-loop effects records first count greatest₀ least₀ c₀ counter₀ greatest least c counter = count - counter

@@ -9,11 +9,13 @@ use Rattle.exact.proofs.Held.{back}
 use Rattle.words.specs.Words.{wordAt}
 use Rattle.model.specs.Refusals.{crosses}
 use Rattle.limits.proofs.Scans.{Tally, tally-begins, tally-more}
+use Rattle.model.specs.Format.{size}
+use Rattle.model.specs.declared.Part.the-variants.{Line}
 use Rattle.ordinates.proofs.crossings.Statement.{statement}
 use Rattle.ordinates.proofs.crossings.Tie as tie
 
 abbrev Inv-loop : tie.InvT-loop
-Inv-loop s pieces sum₀ i₀ sum i = Tally (λ j. crosses (wordAt s (2 * j)) (wordAt s (2 * j + 1)) ≡ false) sum i
+Inv-loop s pieces sum₀ i₀ sum i = Tally (λ j. crosses (wordAt s (size Line * j)) (wordAt s (size Line * j + 1)) ≡ false) sum i
 
 abbrev μ-loop : tie.MeasureT-loop
 μ-loop s pieces sum₀ i₀ sum i = pieces - i
@@ -28,7 +30,7 @@ loop-again c =
     let i = at .loop .i in
     tally-more (at .loop .inv) (
       c .crossed .ensures .0,
-      λ e. subst (λ (x : ℤ). crosses x (wordAt s (2 * i + 1)) ≡ false) (back w32 (c .before .before .word32 .ok) (c .before .before .word32 .ensures))
+      λ e. subst (λ (x : ℤ). crosses x (wordAt s (size Line * i + 1)) ≡ false) (back w32 (c .before .before .word32 .ok) (c .before .before .word32 .ensures))
           (subst (λ (y : ℤ). crosses (toZ w32 (ofZ w32 (c .before .before .word32 .result))) y ≡ false) (back w32 (c .before .word322 .ok) (c .before .word322 .ensures)) (c .crossed .ensures .1 e)),
     )
 

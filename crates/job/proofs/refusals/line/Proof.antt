@@ -3,7 +3,7 @@ use Prim.Native.Nat.{_*_}
 use native.Mathlib.Omega.{arith}
 use lib.ListN.{length}
 use Rattle.words.specs.Fields.{moved, misfit}
-use Rattle.model.specs.Format.{headerOf, format, start}
+use Rattle.model.specs.Format.{headerOf, format, start, bytes}
 use Rattle.model.specs.declared.Part.the-variants.{Line}
 use Rattle.model.proofs.HeaderLimits.{header-fits}
 use Rattle.sections.proofs.Sizes.{part-length}
@@ -13,7 +13,7 @@ use Rattle.job.proofs.refusals.line.Statement.{statement}
 use Rattle.job.proofs.refusals.line.Tie as tie
 
 -- the section's bytes
-long : (c : tie.After-section) → length (c .section .result .now) ≡ 8 * headerOf (c .before .before .args .s .now) .pieces
+long : (c : tie.After-section) → length (c .section .result .now) ≡ bytes Line * headerOf (c .before .before .args .s .now) .pieces
 long c = omega (arith, ap length (c .section .ensures), part-length (c .before .before .pre) Line)
 
 strays-requires : tie.Need-strays-requires

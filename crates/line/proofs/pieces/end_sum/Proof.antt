@@ -1,3 +1,5 @@
+use Rattle.model.specs.Format.{size}
+use Rattle.model.specs.declared.Part.the-variants.{Line}
 use borrow.Author.Needs.{needs}
 use Prim.Native.Nat.{_+_, _*_}
 use native.Mathlib.Omega.{arith}
@@ -19,10 +21,10 @@ module _ (c : tie.After-ordinate2) where
   abbrev st : tie.Start
   st = c .before .before .before
 
-  abbrev left : Kept w32 5000 (wordAt (st .args .line .now) (2 * st .args .i))
+  abbrev left : Kept w32 5000 (wordAt (st .args .line .now) (size Line * st .args .i))
   left = (_, got w32 (c .before .ordinate .ok) (c .before .ordinate .ensures))
 
-  abbrev right : Kept w32 5000 (wordAt (st .args .line .now) (2 * st .args .i + 1))
+  abbrev right : Kept w32 5000 (wordAt (st .args .line .now) (size Line * st .args .i + 1))
   right = (_, got w32 (c .ordinate2 .ok) (c .ordinate2 .ensures))
 
 returns : tie.Need-returns
