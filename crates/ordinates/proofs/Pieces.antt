@@ -22,7 +22,7 @@ use Rattle.limits.proofs.Scans.{answer-none}
 -- a piece by the test of refusal 5, of known answer
 pub piece : (n : ℕ) (s : List ℕ) (i : ℕ) {t : Bool} → crosses (wordAt s (size Line * i)) (wordAt s (size Line * i + 1)) ≡ t → itemMisfit (signs n .fields) s i ≡ (if t then some (size Line * i) else none)
 piece n s i {t} e =
-    rw (add-zero (2 * i), e)
+    rw (add-zero (size Line * i), e)
     (by-test t (λ t. moved (size Line * i) (if not t then none else some 0) ≡ (if t then some (size Line * i) else none)) (λ _. ap some (add-zero (size Line * i))) (λ _. refl))
 
 -- where none crosses, refusal 5 finds nothing
@@ -33,4 +33,4 @@ none-crossing s n h = answer-none 0 n (itemMisfit (signs n .fields) s) (λ i _ l
 -- where all ordinates are within their limits, refusal 4 finds nothing
 pub all-within : (head : Header) (s : List ℕ) → length s ≡ bytes Line * head .pieces → AllWithin s (pos 5000) → misfit (format head Line) s ≡ none
 unfolding misfit
-all-within head s e h = answer-none 0 (head .pieces) (itemMisfit (format head Line .fields) s) (λ i _ l. rw (add-zero (2 * i), h (2 * i) (omega arith), h (size Line * i + 1) (omega arith)) refl)
+all-within head s e h = answer-none 0 (head .pieces) (itemMisfit (format head Line .fields) s) (λ i _ l. rw (add-zero (size Line * i), h (size Line * i) (omega arith), h (size Line * i + 1) (omega arith)) refl)

@@ -1,6 +1,8 @@
 use mathlib.Core.Path.{refl}
 use Prim.Native.Nat.{_*_}
 use native.Mathlib.Nat.{add-zero}
+use Rattle.model.specs.Format.{size}
+use Rattle.model.specs.declared.Part.the-variants.{Effects}
 use borrow.Author.Needs.{needs}
 use Rattle.limits.proofs.effect_misfit.Statement.{statement}
 use Rattle.limits.proofs.effect_misfit.Tie as tie
@@ -12,7 +14,7 @@ returns c =
       c .before .within .ensures,
       c .before .before .field .ensures,
       c .before .before .before .in-range .ensures,
-      add-zero (2 * c .before .before .before .before .before .args .i),
+      add-zero (size Effects * c .before .before .before .before .before .args .i),
     )
     refl
 

@@ -1,6 +1,8 @@
 use mathlib.Core.Path.{refl}
 use Prim.Native.Nat.{_*_}
 use native.Mathlib.Nat.{add-zero}
+use Rattle.model.specs.Format.{size}
+use Rattle.model.specs.declared.Part.the-variants.{Line}
 use borrow.Author.Needs.{needs}
 use Rattle.limits.proofs.piece_misfit.Statement.{statement}
 use Rattle.limits.proofs.piece_misfit.Tie as tie
@@ -12,7 +14,7 @@ returns c =
       c .before .within2 .ensures,
       c .before .before .field .ensures,
       c .before .before .before .within .ensures,
-      add-zero (2 * c .before .before .before .before .before .args .i),
+      add-zero (size Line * c .before .before .before .before .before .args .i),
     )
     refl
 

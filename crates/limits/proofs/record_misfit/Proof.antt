@@ -1,6 +1,8 @@
 use mathlib.Core.Path.{refl}
 use Prim.Native.Nat.{_*_}
 use native.Mathlib.Nat.{add-zero}
+use Rattle.model.specs.Format.{size}
+use Rattle.model.specs.declared.Part.the-variants.{Records}
 use borrow.Author.Needs.{needs}
 use Rattle.limits.proofs.record_misfit.Statement.{statement}
 use Rattle.limits.proofs.record_misfit.Tie as tie
@@ -14,7 +16,7 @@ returns c =
       c .before .before .before .in-range2 .ensures,
       c .before .before .before .before .field .ensures,
       c .before .before .before .before .before .in-range .ensures,
-      add-zero (3 * c .before .before .before .before .before .before .before .args .i),
+      add-zero (size Records * c .before .before .before .before .before .before .before .args .i),
     )
     refl
 

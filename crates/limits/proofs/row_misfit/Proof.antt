@@ -1,6 +1,8 @@
 use mathlib.Core.Path.{refl}
 use Prim.Native.Nat.{_*_}
 use native.Mathlib.Nat.{add-zero}
+use Rattle.model.specs.Format.{size}
+use Rattle.model.specs.declared.Part.the-variants.{Rows}
 use borrow.Author.Needs.{needs}
 use Rattle.limits.proofs.row_misfit.Statement.{statement}
 use Rattle.limits.proofs.row_misfit.Tie as tie
@@ -17,7 +19,7 @@ returns c =
       c .before .before .before .before .before .before .live-limit .ensures,
       c .before .before .before .before .before .before .before .field .ensures,
       c .before .before .before .before .before .before .before .before .in-range .ensures,
-      add-zero (4 * c .before .before .before .before .before .before .before .before .before .before .args .i),
+      add-zero (size Rows * c .before .before .before .before .before .before .before .before .before .before .args .i),
     )
     refl
 

@@ -1,3 +1,5 @@
+use Rattle.model.specs.Format.{size}
+use Rattle.model.specs.declared.Part.the-variants.{Line}
 use borrow.Author.Needs.{needs}
 use mathlib.Core.Path.{_≡_, sym, _∙_, ap₂}
 use Prim.Native.Nat.{_+_, _-_, _*_}
@@ -21,7 +23,7 @@ abbrev μ-loop : tie.MeasureT-loop
 -- the piece's test
 tested : (c : tie.After-crosses Inv-loop μ-loop) →
     let s = c .before .before .before .before .before .before .args .s .now in
-    let p = 2 * c .before .before .before .before .loop .i in
+    let p = size Line * c .before .before .before .before .loop .i in
     c .crosses .result ≡ crosses (wordAt s p) (wordAt s (p + 1))
 tested c = c .crosses .ensures ∙ ap₂ crosses (got w64 (c .before .before .word .ok) (c .before .before .word .ensures) .is) (got w64 (c .before .word2 .ok) (c .before .word2 .ensures) .is)
 

@@ -9,7 +9,7 @@ use lib.ListN.{length}
 use Rattle.exact.specs.Choice.{if_then_else_}
 use Rattle.exact.proofs.Bridge.{by-test}
 use Rattle.words.specs.Fields.{moved, itemMisfit, misfit}
-use Rattle.model.specs.Format.{headerOf, sectionOf}
+use Rattle.model.specs.Format.{headerOf, sectionOf, size}
 use Rattle.model.specs.Decode.{firstRecord}
 use Rattle.model.specs.Refusals.{rowTests}
 use Rattle.model.specs.declared.Header.{Header}
@@ -55,11 +55,11 @@ is-defective-requires c κs =
     chain-there (b d) (st d .pre .0) (st d .pre .1) (i d) (here d) (d .before .before .section2 .ensures) (first c) (count d)
 
 -- the call's answer is row i's
-found : (c : tie.After-is-defective Inv-loop μ-loop) {t : Bool} → c .is-defective .result ≡ t → itemMisfit (rowTests (headerOf (b (c .before .before)) .rows) (chainPasses (st (c .before .before) .args .defect) (b (c .before .before))) .fields) (sectionOf (b (c .before .before)) Rows) (i (c .before .before)) ≡ (if t then some (4 * i (c .before .before)) else none)
+found : (c : tie.After-is-defective Inv-loop μ-loop) {t : Bool} → c .is-defective .result ≡ t → itemMisfit (rowTests (headerOf (b (c .before .before)) .rows) (chainPasses (st (c .before .before) .args .defect) (b (c .before .before))) .fields) (sectionOf (b (c .before .before)) Rows) (i (c .before .before)) ≡ (if t then some (size Rows * i (c .before .before)) else none)
 found c {t} e =
     let d = c .before .before in
     let p = passes (b d) (i d) (d .before .before .section2 .ensures) (first (c .before)) (count d) (st d .args .defect) (c .is-defective .ensures) in
-    rw (p, e) (by-test t (λ t. moved (4 * i d) (if not t then none else some 0) ≡ (if t then some (4 * i d) else none)) (λ _. ap some (add-zero (4 * i d))) (λ _. refl))
+    rw (p, e) (by-test t (λ t. moved (size Rows * i d) (if not t then none else some 0) ≡ (if t then some (size Rows * i d) else none)) (λ _. ap some (add-zero (size Rows * i d))) (λ _. refl))
 
 returns : tie.Need-returns Inv-loop μ-loop
 unfolding misfit
