@@ -20,8 +20,7 @@ use Rattle.model.proofs.HeaderLimits.{HeaderFits, header-fits, dynamic-range}
 use Rattle.model.proofs.LineLimits.{line-within, transverse-within, OneSigned}
 use Rattle.model.proofs.Accepted.{accepted-signed, accepted-spaced}
 use Rattle.sections.specs.Sized.{Sized}
-use Rattle.sections.proofs.Sizes.{part-length}
-use Rattle.job.proofs.Rulings.{is-sized}
+use Rattle.sections.proofs.Sizes.{is-sized, part-length}
 use Rattle.pair.specs.LineFits.{LineFits}
 use Rattle.centres.specs.Transverse.{TransverseFits}
 use Rattle.rows.specs.Tables.{TablesFit}

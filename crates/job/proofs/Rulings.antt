@@ -10,14 +10,14 @@ use lib.ListN.{length, getD}
 use Rattle.model.specs.declared.Part.the-variants.{Head}
 use borrow.Author.Tests.{ne-eqb}
 use Rattle.exact.specs.Choice.{if_then_else_}
-use Rattle.model.specs.Format.{headerOf, wordsDue, bytes}
+use Rattle.model.specs.Format.{headerOf, bytes}
 use Rattle.model.specs.Refusals.{Refusal, Test, _finds_, refuse, firstRefusal, jobTests, jobVerdict, fault1, fault2, fault3, fault6}
 use Rattle.model.specs.declared.Header.{Header}
 use Rattle.model.proofs.RefusalNumbers.{Rising, job-rising}
-use Rattle.model.proofs.Verdict.{has-header, size-fits}
+use Rattle.model.proofs.Verdict.{has-header}
 use Rattle.sections.specs.Sized.{Counted, Sized}
 use Rattle.job.specs.Rulings.{Rules, testOf, Passed}
-use Rattle.sections.proofs.Sizes.{counted}
+use Rattle.sections.proofs.Sizes.{counted, is-sized}
 
 -- the first test that finds a place refuses
 first-found : (tests : List Test) (k : ℕ) {p : ℕ} → ((j : ℕ) → j < k → getD tests j (0 finds none) .found ≡ none) → getD tests k (0 finds none) .found ≡ some p →
@@ -40,10 +40,6 @@ rising-number n (t ∷ rest) r (suc k) h = rising-number (suc n) rest (r .1) k (
 numbered : (b : List ℕ) (n : ℕ) → 1 ≤ n → n ≤ 8 → testOf b n .number ≡ n
 unfolding jobTests
 numbered b n l h = rising-number 1 (jobTests b) (job-rising b) (n - 1) (omega arith) ∙ omega arith
-
--- a job without faults 1 to 3 has the bytes that its header calls for
-pub is-sized : (b : List ℕ) {head : Header} → head ≡ headerOf b → fault1 b ≡ none → fault2 b ≡ none → fault3 b ≡ none → Sized b head
-is-sized b o e f g = record { own = o; within = f; due = size-fits b e g ∙ ap (λ (h : Header). 4 * wordsDue h) (sym o) }
 
 -- a job without fault 1 begins the tests from 2 on
 pub begins : {b : List ℕ} {head : Header} → head ≡ headerOf b → fault1 b ≡ none → Passed b head 2

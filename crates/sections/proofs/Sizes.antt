@@ -10,11 +10,15 @@ use Rattle.model.specs.Format.{headerOf, spaces, words, start, wordsDue, sectio
 use Rattle.model.specs.declared.Header.{Header}
 use Rattle.model.specs.declared.Part.{Part}
 use Rattle.model.specs.declared.Part.the-variants.{Head, Line, Transverse, Effects, Rows, Records}
-use Rattle.model.specs.Refusals.{fault2}
+use Rattle.model.specs.Refusals.{fault1, fault2, fault3}
 use Rattle.model.proofs.HeaderLimits.{header-fits}
 use Rattle.model.proofs.Sections.{section-length}
-use Rattle.model.proofs.Verdict.{part-inside}
+use Rattle.model.proofs.Verdict.{size-fits, part-inside}
 use Rattle.sections.specs.Sized.{Counted, Sized}
+
+-- a job without faults 1 to 3 has the bytes that its header calls for
+pub is-sized : (b : List ℕ) {head : Header} → head ≡ headerOf b → fault1 b ≡ none → fault2 b ≡ none → fault3 b ≡ none → Sized b head
+is-sized b o e f g = record { own = o; within = f; due = size-fits b e g ∙ ap (λ (h : Header). 4 * wordsDue h) (sym o) }
 
 -- a job without fault 2 has its counts within their limits
 pub counted : (b : List ℕ) → fault2 b ≡ none → Counted (headerOf b)
