@@ -104,15 +104,13 @@ fn or_else(first: Finding, second: Finding) -> Finding
     }
 }
 
-// The lowest place at fault in the line, sought only where there is one.
+// The lowest place at fault in the line.
 fn line(s: &[u8], head: Header) -> Finding
     requires { ⌜ Sized (now s) head ⌝ }
     ensures { λ r. ⌜ findingOf r ≡ fault (now (s .entry)) (headerOf (now (s .entry))) Line ⌝ }
 {
-    if ordinates::strays(sections::section(s, head, Part::Line), 5000) == 0 {
-        return Finding::Nothing;
-    }
-    fault(s, head, Part::Line)
+    let own = ordinates::misfit(sections::section(s, head, Part::Line), head);
+    in_job(head, Part::Line, own)
 }
 
 // 4: an ordinate of either line outside its limits.

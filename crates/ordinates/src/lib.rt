@@ -8,12 +8,15 @@ ghost use lib.Signed.{ltZ};
 ghost use Rattle.exact.specs.Bounds.{Within};
 ghost use Rattle.exact.specs.Choice.{if_then_else_, between};
 ghost use Rattle.words.specs.Fields.{misfit};
-ghost use Rattle.model.specs.Format.{bytes};
+ghost use Rattle.model.specs.Format.{format, bytes};
 ghost use Rattle.model.specs.declared.Part.the-variants.{Line};
 ghost use Rattle.model.specs.Refusals.{crosses, signs};
+ghost use Rattle.sections.specs.Sized.{Counted};
 ghost use Rattle.limits.specs.Faults.{placeOf};
 ghost use Rattle.ordinates.specs.Lines.{AllWithin, NoneCrosses};
 use limits::Fault;
+use model::Header;
+use model::Part;
 
 // 0 for a word from -m to m, else 1.
 fn outside(x: i32, m: i32) -> u32
@@ -30,7 +33,7 @@ fn outside(x: i32, m: i32) -> u32
 }
 
 // How many of a section's words are outside -m to m.
-pub fn strays(s: &[u8], m: i32) -> u32
+fn strays(s: &[u8], m: i32) -> u32
     requires { ⌜ (length (now s) ≤ 8000) × Within 1000000 m ⌝ }
     ensures { λ r. ⌜ (r ≡ 0 → AllWithin (now (s .entry)) m) ⌝ }
 {
@@ -39,6 +42,17 @@ pub fn strays(s: &[u8], m: i32) -> u32
         sum += outside(words::word32(s, k), m);
     }
     sum
+}
+
+// The lowest place of an ordinate outside its limits in a line's own bytes, sought only where there is one.
+pub fn misfit(s: &[u8], head: Header) -> Fault
+    requires { ⌜ Counted head × (length (now s) ≡ bytes Line * head .pieces) ⌝ }
+    ensures { λ r. ⌜ placeOf r ≡ misfit (format head Line) (now (s .entry)) ⌝ }
+{
+    if strays(s, 5000) == 0 {
+        return Fault::Clear;
+    }
+    limits::misfit(s, head, Part::Line)
 }
 
 // One is above 0 and the other below.

@@ -1,30 +1,31 @@
-use mathlib.Core.Path.{_≡_, sym, _∙_, ap}
-use Prim.Native.Nat.{_*_}
+use mathlib.Core.Path.{sym, _∙_, ap}
 use native.Mathlib.Omega.{arith}
 use lib.ListN.{length}
 use Rattle.words.specs.Fields.{moved, misfit}
-use Rattle.model.specs.Format.{headerOf, format, start, bytes}
+use Rattle.model.specs.Format.{format, start, sectionOf}
+use Rattle.model.specs.declared.Header.{Header}
 use Rattle.model.specs.declared.Part.the-variants.{Line}
-use Rattle.model.proofs.HeaderLimits.{header-fits}
-use Rattle.sections.proofs.Sizes.{part-length}
-use Rattle.ordinates.proofs.Pieces.{all-within}
-use borrow.Author.Needs.{needs}
+use Rattle.words.proofs.Fits.{below}
+use Rattle.sections.proofs.Sizes.{counts, part-length}
 use Rattle.job.proofs.refusals.line.Statement.{statement}
 use Rattle.job.proofs.refusals.line.Tie as tie
 
--- the section's bytes
-long : (c : tie.After-section) → length (c .section .result .now) ≡ bytes Line * headerOf (c .before .before .args .s .now) .pieces
-long c = omega (arith, ap length (c .section .ensures), part-length (c .before .before .pre) Line)
+misfit-requires : tie.Need-misfit-requires
+misfit-requires c κs =
+    let st = c .before .before in
+    (counts (st .pre), omega (arith, ap length (c .section .ensures), part-length (st .pre) Line, ap (λ (h : Header). h .pieces) (st .pre .own)))
 
-strays-requires : tie.Need-strays-requires
-strays-requires c κs = let st = c .before .before in (omega (arith, long c, header-fits _ (st .pre .within) .pieces .most), record { up≤ = omega arith; dn≤ = omega arith })
+in-job-requires : tie.Need-in-job-requires
+in-job-requires c κs =
+    let st = c .before .before .before in
+    (counts (st .pre), λ p e. below (format (st .args .head) Line) _ p (sym (c .misfit .ensures) ∙ e))
 
 returns : tie.Need-returns
 returns c =
-    let k = c .before .before in
-    let b = k .before .before .args .s .now in
-    let clear = all-within (headerOf b) _ (long k) (c .before .strays .ensures (c .if1 .taken)) in
-    sym (ap (moved (start (headerOf b) Line)) (ap (misfit (format (headerOf b) Line)) (sym (k .section .ensures)) ∙ clear))
+    let st = c .before .before .before .before in
+    c .in-job .ensures
+    ∙ ap (moved (start (st .args .head) Line)) (c .before .misfit .ensures ∙ ap (misfit (format (st .args .head) Line)) (c .before .before .section .ensures))
+    ∙ ap (λ (h : Header). moved (start h Line) (misfit (format h Line) (sectionOf (st .args .s .now) Line))) (st .pre .own)
 
 pub line-spec : {M : Type 1} → statement M
-line-spec = tie.close (tie.spec (λ c κs. search needs) strays-requires returns (λ c κs. search needs) (λ c. search needs))
+line-spec = tie.close (tie.spec (λ c κs. c .before .pre) misfit-requires in-job-requires returns)
