@@ -8,7 +8,6 @@ use lib.Signed.{_≤ℤ_}
 use mir.Syntax.{w64}
 use mir.Val.{toZ, ofZ}
 use Rattle.exact.specs.Parts.{up}
-use Rattle.exact.proofs.Bounds.{within-le}
 use Rattle.exact.proofs.Held.{Room, known, told}
 use Rattle.exact.specs.declared.Question.{Question}
 use Rattle.model.specs.Job.{Job}
@@ -25,7 +24,8 @@ use Rattle.line.specs.Sought.{SoughtRight, EffectRight}
 use Rattle.line.specs.declared.effect.Sought.{Sought}
 use Rattle.centres.specs.Spans.{AcrossRight, Spanned}
 use Rattle.centres.specs.declared.Across.{Across}
-use Rattle.lanes.specs.Loadings.{LineEffectsFit, effectsOf}
+use Rattle.lanes.specs.Entries.{LineEffectsFit}
+use Rattle.lanes.specs.Loadings.{effectsOf}
 use Rattle.lanes.specs.declared.traffic.Effects.{Effects}
 use Rattle.accepted.specs.AccountParts.{Ready}
 
@@ -57,10 +57,6 @@ module _ (job : Job) (kind : Kind) {raising lowering : Sought} (above : SoughtRi
     raising = told (known w64 (a .near) (room kind)) .1;
     lowering = told (known w64 (b .near) (room kind)) .1;
   }
-
--- a wider bound
-pub wider : {m n : ℕ} {e : Effects} → m ≤ n → LineEffectsFit m e → LineEffectsFit n e
-wider h f = record { up = f .up; down = f .down; raising = within-le (f .raising) h; lowering = within-le (f .lowering) h }
 
 -- what lies across, as it was found
 module _ {b : List ℕ} {head : Header} (ready : Ready b head) where

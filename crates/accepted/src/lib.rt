@@ -61,10 +61,12 @@ fn values(job: &[u8], head: Header, raising: Sought, lowering: Sought) -> Traffi
         head.width,
         head.spacing,
     );
-    let ng = traffic::normal(Question::Greatest, across, d, hn);
-    let nl = traffic::normal(Question::Least, across, d, hn);
-    let og = traffic::overload(Question::Greatest, across, d, hn, ho);
-    let ol = traffic::overload(Question::Least, across, d, hn, ho);
+    let most = traffic::both(Question::Greatest, across, d, hn, ho);
+    let lowest = traffic::both(Question::Least, across, d, hn, ho);
+    let ng = most.normal;
+    let nl = lowest.normal;
+    let og = most.overload;
+    let ol = lowest.overload;
     let normal = Traffic {
         greatest: ng,
         least: nl,

@@ -1,6 +1,6 @@
 // What lies across the line: the number of lanes, the limits of each, and its centres with the greatest and the least transverse ordinate.
 ghost use mathlib.Core.Path.{_≡_};
-ghost use Prim.Native.Nat.{ℕ, _+_, _/_, _≤_, _<_};
+ghost use Prim.Native.Nat.{ℕ, _+_, _/_, _≤_, _<_, _^_};
 ghost use lib.ListN.{length, getD};
 ghost use Rattle.exact.specs.Bounds.{Within};
 ghost use Rattle.model.specs.Lanes.{laneCount};
@@ -31,10 +31,10 @@ fn lane_count(width: usize) -> usize
     5
 }
 
-// A centre in n-ths of a cm and the transverse ordinate there, in thousandths times n g.
+// A centre in n-ths of a cm and the transverse ordinate there, in thousandths times n g; narrow, since all lanes' are handed on together.
 pub struct Centre {
-    pub ordinate: i64,
-    pub at: usize,
+    pub ordinate: i32,
+    pub at: u32,
 }
 
 // The transverse ordinate at a centre, d being n g.
@@ -54,11 +54,15 @@ fn consider(q: Question, across: &[u8], d: usize, best: Centre, at: usize) -> Ce
     requires { ⌜ 0 < d ⌝ }
     requires { ⌜ d ≤ 250 ⌝ }
     requires { ⌜ OrdinatesTo (now across) (at / d + 1) ⌝ }
+    requires { ⌜ at < 2 ^ 32 ⌝ }
     ensures { λ r. ⌜ r ≡ betterCentre q (now (across .entry)) d best at ⌝ }
 {
     let here = ordinate(across, d, at);
-    if exact::beats(q, here, best.ordinate) {
-        return Centre { ordinate: here, at };
+    if exact::beats(q, here, best.ordinate as i64) {
+        return Centre {
+            ordinate: here as i32,
+            at: at as u32,
+        };
     }
     best
 }
@@ -69,11 +73,12 @@ fn best(q: Question, across: &[u8], d: usize, lo: usize, hi: usize) -> Centre
     requires { ⌜ d ≤ 250 ⌝ }
     requires { ⌜ lo ≤ hi ⌝ }
     requires { ⌜ OrdinatesTo (now across) (hi / d + 1) ⌝ }
+    requires { ⌜ hi < 2 ^ 32 ⌝ }
     ensures { λ r. ⌜ BestBefore q (now (across .entry)) d lo hi (hi / d + 1) r ⌝ }
 {
     let first = Centre {
-        ordinate: ordinate(across, d, lo),
-        at: lo,
+        ordinate: ordinate(across, d, lo) as i32,
+        at: lo as u32,
     };
     let mut best = consider(q, across, d, first, hi);
     for m in lo / d + 1..hi / d + 1 {

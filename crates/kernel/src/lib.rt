@@ -14,51 +14,54 @@ use model::State;
 use model::Traffic;
 use sections::header;
 ghost use mathlib.Core.Path.{_≡_};
-ghost use Rattle.model.specs.Answered.{zeroTraffic, refusalAnswer, Answered};
+ghost use Rattle.model.specs.Answered.{refusalAnswer, Answered};
 
-// A live kind's two values, both 0, with every lane unloaded.
-fn no_traffic() -> Traffic
-    ensures { λ r. ⌜ r ≡ zeroTraffic ⌝ }
-{
-    let lane = Lane {
-        entry: Entry::Unloaded,
-        centre: 0,
-    };
-    let lanes = [lane; 5];
-    let placement = Placement { set: 0, lanes };
-    let none = Extreme {
-        value: 0,
-        placement,
-    };
-    Traffic {
-        greatest: none,
-        least: none,
-    }
-}
+// A lane that carries nothing.
+const EMPTY: Lane = Lane {
+    entry: Entry::Unloaded,
+    centre: 0,
+};
+
+// A value of 0 with every lane unloaded.
+const ZERO: Extreme = Extreme {
+    value: 0,
+    placement: Placement {
+        set: 0,
+        lanes: [EMPTY; 5],
+    },
+};
+
+// A live kind's two values, both 0.
+const NO_TRAFFIC: Traffic = Traffic {
+    greatest: ZERO,
+    least: ZERO,
+};
+
+// Station 0, on the left.
+const ORIGIN: Position = Position {
+    station: 0,
+    side: Side::Left,
+};
+
+// The account of a refusal.
+const NO_ACCOUNT: Account = Account {
+    normal: NO_TRAFFIC,
+    overload: NO_TRAFFIC,
+    raising: ORIGIN,
+    lowering: ORIGIN,
+    service: State::Absent,
+    ultimate: State::Absent,
+    lanes: 0,
+};
 
 // The answer of a refusal.
 fn refused(number: u32, place: u32) -> Answer
     ensures { λ r. ⌜ r ≡ refusalAnswer (record { number = number; place = place }) ⌝ }
 {
-    let none = no_traffic();
-    let position = Position {
-        station: 0,
-        side: Side::Left,
-    };
-    let absent = State::Absent;
-    let account = Account {
-        normal: none,
-        overload: none,
-        raising: position,
-        lowering: position,
-        service: absent,
-        ultimate: absent,
-        lanes: 0,
-    };
     Answer {
         refusal: number,
         place,
-        account,
+        account: NO_ACCOUNT,
     }
 }
 

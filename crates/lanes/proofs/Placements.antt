@@ -32,7 +32,6 @@ use Rattle.centres.specs.declared.Across.{Across}
 use Rattle.sets.specs.Sets.{bestFor}
 use Rattle.sets.specs.declared.Loading.{Loading}
 use Rattle.sets.proofs.SetNumbers.{bit-past}
-use Rattle.lanes.specs.Entries.{noElement}
 use Rattle.lanes.specs.Loadings.{laneBy, LanesPlaced, ElementRight, LoadingOf, TrafficPlaced}
 use Rattle.lanes.specs.declared.entries.Chosen.{Chosen}
 
@@ -80,7 +79,7 @@ set-of (l ∷ rest) test h =
     ap₂ (λ (a b : ℕ). a + 2 * b) (h 0 (omega arith)) (set-of rest (λ i. test (suc i)) (λ i p. h (suc i) (omega arith)))
     ∙ sym (number-low (length rest) test)
 
-module _ (set o n : ℕ) (hn over : List Chosen) (all : List Lane) (small : set < 2 ^ n) (few : n ≤ 5) (apart : bit set o ≡ false) (lane : (o < n) ⊎ (o ≡ 5)) (placed : LanesPlaced set o n hn over all) where
+module _ (set o n : ℕ) (hn over : ℕ → Chosen) (all : List Lane) (small : set < 2 ^ n) (few : n ≤ 5) (apart : bit set o ≡ false) (lane : (o < n) ⊎ (o ≡ 5)) (placed : LanesPlaced set o n hn over all) where
   -- lane i is loaded
   abbrev loaded : ℕ → Bool
   loaded i = if eqb i o then true else bit set i
@@ -93,7 +92,7 @@ module _ (set o n : ℕ) (hn over : List Chosen) (all : List Lane) (small : set 
       let five = placed .five in
       set-of all loaded (λ i h. elim (decLe n i) [
         | yes l ↦ ap (λ (x : Lane). entryBit (x .entry)) (placed .past i l) ∙ sym (ap₂ (λ (a b : Bool). if (if a then true else b) then 1 else 0) (outside i l (omega arith)) (bit-past n set i small l))
-        | no l ↦ ap (λ (x : Lane). entryBit (x .entry)) (placed .each i (omega arith)) ∙ loaded-by (getD hn i noElement) (getD over i noElement) (eqb i o) (bit set i)
+        | no l ↦ ap (λ (x : Lane). entryBit (x .entry)) (placed .each i (omega arith)) ∙ loaded-by (hn i) (over i) (eqb i o) (bit set i)
       ])
       ∙ ap (λ (m : ℕ). setNumber m loaded) five
 
@@ -115,7 +114,7 @@ best-is q job noTraffic = refl
 best-is q job normal = refl
 best-is q job overload = refl
 
-module _ (q : Question) (job : Job) (live : Live) (across : Across) (dynamic : ℕ) (best : Loading) (hn ho : List Chosen) (f : LoadingOf q job live across dynamic best hn ho) (few : across .lanes ≤ 5)
+module _ (q : Question) (job : Job) (live : Live) (across : Across) (dynamic : ℕ) (best : Loading) (hn ho : ℕ → Chosen) (f : LoadingOf q job live across dynamic best hn ho) (few : across .lanes ≤ 5)
     (x : Extreme) (value : x .value ≡ effectOf q dynamic (best .value) (across .unit)) (set : x .placement .set ≡ (if ltb (best .lane) 5 then best .set + 2 ^ best .lane else best .set))
     (as-found : LanesPlaced (best .set) (best .lane) (across .lanes) hn ho (x .placement .lanes)) where
   abbrev o : ℕ
@@ -127,10 +126,10 @@ module _ (q : Question) (job : Job) (live : Live) (across : Across) (dynamic : �
   under-hn : (i : ℕ) → i < lanes job → entryIs HN (laneAt (x .placement) i .entry) ≡ bit (best .set) i
   under-hn i h =
       ap (λ (y : Lane). entryIs HN (y .entry)) (placed .each i h)
-      ∙ hn-by (getD hn i noElement) (getD ho i noElement) (eqb i o) (bit (best .set) i) (λ e. ap (bit (best .set)) (eqb-true i o e) ∙ f .loading .apart)
+      ∙ hn-by (hn i) (ho i) (eqb i o) (bit (best .set) i) (λ e. ap (bit (best .set)) (eqb-true i o e) ∙ f .loading .apart)
 
   under-ho : (i : ℕ) → i < lanes job → entryIs HO (laneAt (x .placement) i .entry) ≡ eqb i o
-  under-ho i h = ap (λ (y : Lane). entryIs HO (y .entry)) (placed .each i h) ∙ ho-by (getD hn i noElement) (getD ho i noElement) (eqb i o) (bit (best .set) i)
+  under-ho i h = ap (λ (y : Lane). entryIs HO (y .entry)) (placed .each i h) ∙ ho-by (hn i) (ho i) (eqb i o) (bit (best .set) i)
 
   entry-by : (i : ℕ) (c d : Chosen) (a b : Bool) → ElementRight q job HN i c → (a ≡ true → ElementRight q job HO i d) → EntryRight q job i (laneBy c d a b .entry) (laneBy c d a b .centre)
   entry-by i c d true b h k = k refl .at
@@ -148,7 +147,7 @@ module _ (q : Question) (job : Job) (live : Live) (across : Across) (dynamic : �
             ∙ ap₂ (λ (z : ℤ) (d : ℕ). effectOf q (job .dynamic q) z d) top (f .spanned .unit);
         entries = λ i h.
             subst (λ (y : Lane). EntryRight q job i (y .entry) (y .centre)) (sym (placed .each i h))
-            (entry-by i (getD hn i noElement) (getD ho i noElement) (eqb i o) (bit (best .set) i) (f .underHn i h) (λ e. f .underHo i h (eqb-true i o e)));
+            (entry-by i (hn i) (ho i) (eqb i o) (bit (best .set) i) (f .underHn i h) (λ e. f .underHo i h (eqb-true i o e)));
         kinds = subst (OverloadLanes live) (sym (placed-lanes q job (x .placement) (best .set) (λ i. eqb i o) (f .loading .small) under-hn under-ho)) (f .loading .kinds);
         sum = placed-sum q job (x .placement) (best .set) (λ i. eqb i o) (f .loading .small) under-hn under-ho ∙ sym (f .loading .value) ∙ top;
         set = set ∙ sym (loaded-set (best .set) o (lanes job) hn ho (x .placement .lanes) (f .loading .small) (subst (λ (n : ℕ). n ≤ 5) (f .spanned .lanes) few) (f .loading .apart) (f .loading .lane) placed);
@@ -157,6 +156,6 @@ module _ (q : Question) (job : Job) (live : Live) (across : Across) (dynamic : �
           | yes l ↦ ap (λ (y : Lane). y .centre) (placed .past i l)
           | no l ↦
               let is = placed .each i (omega arith) in
-              ap (λ (y : Lane). y .centre) is ∙ idle-by (getD hn i noElement) (getD ho i noElement) (eqb i o) (bit (best .set) i) (sym (ap (λ (y : Lane). y .entry) is) ∙ e)
+              ap (λ (y : Lane). y .centre) is ∙ idle-by (hn i) (ho i) (eqb i o) (bit (best .set) i) (sym (ap (λ (y : Lane). y .entry) is) ∙ e)
         ];
       }

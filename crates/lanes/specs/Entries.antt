@@ -1,50 +1,52 @@
 -- A lane's best element: raising where the question's ordinate is, or lowering where the other question's is.
-use mathlib.Core.Path.{_≡_}
-use mathlib.Core.List.{List}
-use Prim.Native.Nat.{ℕ, _<_}
+use mathlib.Core.Bool.{Bool}
+use Prim.Native.Nat.{ℕ}
 use lib.IntN.{ℤ, pos, _*ℤ_}
 use lib.ListN.{getD}
-use Rattle.exact.specs.Questions.{better, other}
+use lib.Signed.{_≤ℤ_}
+use Rattle.exact.specs.Bounds.{Within}
+use Rattle.exact.specs.Choice.{if_then_else_}
+use Rattle.exact.specs.Questions.{beats, other}
 use Rattle.exact.specs.declared.Question.{Question}
 use Rattle.exact.specs.declared.Question.the-variants.{Greatest, Least}
-use Rattle.model.specs.declared.Sense.{Sense}
 use Rattle.model.specs.declared.Sense.the-variants.{Raising, Lowering}
 use Rattle.centres.specs.Spans.{noSpan}
+use Rattle.centres.specs.declared.Across.{Across}
 use Rattle.centres.specs.declared.Centre.{Centre}
 use Rattle.centres.specs.declared.Span.{Span}
 use Rattle.lanes.specs.declared.entries.Chosen.{Chosen}
-use Rattle.lanes.specs.declared.entries.Elements.{Elements}
+use Rattle.lanes.specs.declared.traffic.Effects.{Effects}
 
--- what the lanes past the last one hold
-abbrev pub noElement : Chosen
-noElement = record { value = pos 0; sense = Raising; centre = 0 }
+-- line effects: raising is not below 0, lowering not above, both at most b from 0
+pub record LineEffectsFit (b : ℕ) (e : Effects) : Type 0 where
+  pub up : pos 0 ≤ℤ e .raising
+  pub down : e .lowering ≤ℤ pos 0
+  pub raising : Within b (e .raising)
+  pub lowering : Within b (e .lowering)
 
 -- the centre with the question's best ordinate
 abbrev pub bestOf : Question → Span → Centre
 bestOf Greatest span = span .greatest
 bestOf Least span = span .least
 
--- the centre that suits an element of the sense
-abbrev pub centreFor : Question → Sense → Span → Centre
-centreFor q Raising span = bestOf q span
-centreFor q Lowering span = bestOf (other q) span
+-- the effect of a raising element at the question's best ordinate
+abbrev pub raised : Question → Span → Effects → ℤ
+raised q span e = bestOf q span .ordinate *ℤ e .raising
 
--- a sense's line effect
-abbrev pub effectFor : Sense → (raising lowering : ℤ) → ℤ
-effectFor Raising raising lowering = raising
-effectFor Lowering raising lowering = lowering
+-- the effect of a lowering element at the other question's best ordinate
+abbrev pub lowered : Question → Span → Effects → ℤ
+lowered q span e = bestOf (other q) span .ordinate *ℤ e .lowering
 
--- the better of a lane's two elements, by its effect
-abbrev pub bestEffect : Question → Span → (raising lowering : ℤ) → ℤ
-bestEffect q span raising lowering = better q (bestOf q span .ordinate *ℤ raising) (bestOf (other q) span .ordinate *ℤ lowering)
+-- a lane's element: lowering, or raising
+abbrev pub elementOf : Question → Span → Effects → (lowers : Bool) → Chosen
+elementOf q span e lowers =
+    if lowers then record { value = lowered q span e; sense = Lowering; centre = bestOf (other q) span .at }
+    else record { value = raised q span e; sense = Raising; centre = bestOf q span .at }
 
--- the better of a lane's two elements, and how it is placed
-pub record ChosenRight (q : Question) (span : Span) (raising lowering : ℤ) (r : Chosen) : Type 0 where
-  pub best : r .value ≡ bestEffect q span raising lowering
-  pub gives : centreFor q (r .sense) span .ordinate *ℤ effectFor (r .sense) raising lowering ≡ r .value
-  pub centre : centreFor q (r .sense) span .at ≡ r .centre
+-- the better of the two, raising at a tie
+abbrev pub chosen : Question → Span → Effects → Chosen
+chosen q span e = elementOf q span e (beats q (lowered q span e) (raised q span e))
 
--- the better element of each of n lanes, and its effect by itself
-pub record AllChosen (q : Question) (spans : List Span) (n : ℕ) (raising lowering : ℤ) (r : Elements) : Type 0 where
-  pub each : (i : ℕ) → i < n → ChosenRight q (getD spans i noSpan) raising lowering (getD (r .all) i noElement)
-  pub values : (i : ℕ) → i < n → getD (r .values) i (pos 0) ≡ bestEffect q (getD spans i noSpan) raising lowering
+-- lane i's
+abbrev pub chosenIn : Question → Across → Effects → ℕ → Chosen
+chosenIn q across e i = chosen q (getD (across .spans) i noSpan) e

@@ -3,11 +3,8 @@ use mathlib.Core.Path.{_≡_}
 use mathlib.Core.Bool.{Bool}
 use mathlib.Core.List.{List}
 use Prim.Native.Nat.{ℕ, _≤_, _<_}
-use lib.IntN.{ℤ, pos}
-use lib.Signed.{_≤ℤ_}
 use lib.ListN.{length, getD}
 use lib.Dec.{eqb}
-use Rattle.exact.specs.Bounds.{Within}
 use Rattle.exact.specs.Choice.{if_then_else_}
 use Rattle.exact.specs.declared.Question.{Question}
 use Rattle.model.specs.Job.{Job, Live}
@@ -25,18 +22,8 @@ use Rattle.centres.specs.Spans.{Spanned}
 use Rattle.centres.specs.declared.Across.{Across}
 use Rattle.sets.specs.Sets.{LoadingRight}
 use Rattle.sets.specs.declared.Loading.{Loading}
-use Rattle.lanes.specs.Entries.{noElement}
 use Rattle.lanes.specs.declared.entries.Chosen.{Chosen}
 use Rattle.lanes.specs.declared.traffic.Effects.{Effects}
-
--- ---- line effects
-
--- raising is not below 0, lowering not above, both at most b from 0
-pub record LineEffectsFit (b : ℕ) (e : Effects) : Type 0 where
-  pub up : pos 0 ≤ℤ e .raising
-  pub down : e .lowering ≤ℤ pos 0
-  pub raising : Within b (e .raising)
-  pub lowering : Within b (e .lowering)
 
 -- a kind's line effects in a job
 abbrev pub effectsOf : Job → Kind → Effects
@@ -55,9 +42,9 @@ abbrev pub laneOf : (set ho i : ℕ) → (hn over : Chosen) → Lane
 laneOf set ho i hn over = laneBy hn over (eqb i ho) (bit set i)
 
 -- n lanes by the set and the HO lane, and unloaded ones to five
-pub record LanesPlaced (set ho n : ℕ) (hn over : List Chosen) (lanes : List Lane) : Type 0 where
+pub record LanesPlaced (set ho n : ℕ) (hn over : ℕ → Chosen) (lanes : List Lane) : Type 0 where
   pub five : length lanes ≡ 5
-  pub each : (i : ℕ) → i < n → getD lanes i emptyLane ≡ laneOf set ho i (getD hn i noElement) (getD over i noElement)
+  pub each : (i : ℕ) → i < n → getD lanes i emptyLane ≡ laneOf set ho i (hn i) (over i)
   pub past : (i : ℕ) → n ≤ i → getD lanes i emptyLane ≡ emptyLane
 
 -- ---- a traffic value
@@ -68,12 +55,12 @@ pub record ElementRight (q : Question) (job : Job) (kind : Kind) (i : ℕ) (c : 
   pub at : BestCentre q job kind (c .sense) i (c .centre)
 
 -- a live kind's best loading in a job, with the elements of its lanes
-pub record LoadingOf (q : Question) (job : Job) (live : Live) (across : Across) (dynamic : ℕ) (best : Loading) (hn ho : List Chosen) : Type 0 where
+pub record LoadingOf (q : Question) (job : Job) (live : Live) (across : Across) (dynamic : ℕ) (best : Loading) (hn ho : ℕ → Chosen) : Type 0 where
   pub spanned : Spanned job across
   pub factor : dynamic ≡ job .dynamic q
   pub loading : LoadingRight q live (lanes job) (laneEffect q job HN) (laneEffect q job HO) best
-  pub underHn : (i : ℕ) → i < lanes job → ElementRight q job HN i (getD hn i noElement)
-  pub underHo : (i : ℕ) → i < lanes job → i ≡ best .lane → ElementRight q job HO i (getD ho i noElement)
+  pub underHn : (i : ℕ) → i < lanes job → ElementRight q job HN i (hn i)
+  pub underHo : (i : ℕ) → i < lanes job → i ≡ best .lane → ElementRight q job HO i (ho i)
 
 -- a placement of a live kind whose entries are each a best of their lane, and whose sum is the best sum
 pub record TrafficPlaced (q : Question) (job : Job) (live : Live) (x : Extreme) : Type 0 where

@@ -1,19 +1,20 @@
 // The best entry of each lane for a kind and a question.
+use crate::traffic::Effects;
+use centres::Across;
 use centres::Centre;
 use centres::Span;
 use exact::Question;
 use model::Sense;
 ghost use mathlib.Core.Path.{_≡_};
-ghost use Prim.Native.Nat.{ℕ, _≤_, _<_};
-ghost use lib.ListN.{getD};
-ghost use Rattle.exact.specs.Bounds.{Within};
+ghost use Prim.Native.Nat.{ℕ, _<_};
 ghost use Rattle.exact.specs.Questions.{other};
 ghost use Rattle.magnitudes.specs.Magnitudes.{hoLineMost};
-ghost use Rattle.centres.specs.Spans.{noSpan, SpanFits};
-ghost use Rattle.lanes.specs.Entries.{bestOf, ChosenRight, AllChosen};
+ghost use Rattle.centres.specs.Spans.{SpanFits, AcrossFits};
+ghost use Rattle.sets.specs.Sets.{valueAt};
+ghost use Rattle.lanes.specs.Entries.{LineEffectsFit, bestOf, chosen, chosenIn};
 
 // A lane's best element: its effect, its sense and its centre.
-pub struct Chosen {
+pub(crate) struct Chosen {
     pub value: i64,
     pub sense: Sense,
     pub centre: usize,
@@ -40,61 +41,39 @@ fn worst_of(q: Question, span: Span) -> Centre
 }
 
 // The best element of a lane with this span, under these line effects.
-fn choose(q: Question, span: Span, raising: i64, lowering: i64) -> Chosen
-    requires { ⌜ SpanFits span ⌝ }
-    requires { ⌜ Within hoLineMost raising × Within hoLineMost lowering ⌝ }
-    ensures { λ r. ⌜ ChosenRight q span raising lowering r ⌝ }
+pub(crate) fn choose(q: Question, span: Span, e: Effects) -> Chosen
+    requires { ⌜ SpanFits span × LineEffectsFit hoLineMost e ⌝ }
+    ensures { λ r. ⌜ r ≡ chosen q span e ⌝ }
 {
     let r = best_of(q, span);
     let l = worst_of(q, span);
-    let up = r.ordinate * raising;
-    let down = l.ordinate * lowering;
+    let up = (r.ordinate as i64) * e.raising;
+    let down = (l.ordinate as i64) * e.lowering;
     if exact::beats(q, down, up) {
         return Chosen {
             value: down,
             sense: Sense::Lowering,
-            centre: l.at,
+            centre: l.at as usize,
         };
     }
     Chosen {
         value: up,
         sense: Sense::Raising,
-        centre: r.at,
+        centre: r.at as usize,
     }
 }
 
-// The best element of each lane, and its effect by itself.
-pub struct Elements {
-    pub all: [Chosen; 5],
-    pub values: [i64; 5],
-}
-
-// The best elements of n lanes under these line effects.
-pub(crate) fn choose_all(
-    q: Question,
-    spans: [Span; 5],
-    n: usize,
-    raising: i64,
-    lowering: i64,
-) -> Elements
-    requires { ⌜ (0 < n) × (n ≤ 5) ⌝ }
-    requires { ⌜ ((i : ℕ) → i < n → SpanFits (getD spans i noSpan)) ⌝ }
-    requires { ⌜ Within hoLineMost raising × Within hoLineMost lowering ⌝ }
-    ensures { λ r. ⌜ AllChosen q spans n raising lowering r ⌝ }
+// The effect of each lane's best element.
+pub(crate) fn values(q: Question, across: Across, e: Effects) -> [i64; 5]
+    requires { ⌜ AcrossFits across × LineEffectsFit hoLineMost e ⌝ }
+    ensures { λ r. ⌜ ((i : ℕ) → i < across .lanes → valueAt r i ≡ chosenIn q across e i .value) ⌝ }
 {
-    let none = Chosen {
-        value: 0,
-        sense: Sense::Raising,
-        centre: 0,
-    };
-    let mut all = [none; 5];
+    let n = across.lanes;
     let mut values = [0i64; 5];
     for i in 0..n {
-        let span = spans[i];
-        let c = choose(q, span, raising, lowering);
-        all[i] = c;
+        let c = choose(q, across.spans[i], e);
         let v = c.value;
         values[i] = v;
     }
-    Elements { all, values }
+    values
 }

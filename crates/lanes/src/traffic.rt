@@ -1,7 +1,7 @@
 // The traffic values with their placements.
 use crate::entries;
-use crate::entries::Chosen;
 use centres::Across;
+use centres::Span;
 use exact::Question;
 use model::Entry;
 use model::Extreme;
@@ -9,14 +9,15 @@ use model::Lane;
 use model::Placement;
 use sets::Loading;
 ghost use mathlib.Core.Path.{_≡_};
-ghost use Prim.Native.Nat.{_*_, _≤_, _<_};
+ghost use Prim.Native.Nat.{_≤_, _<_};
 ghost use Rattle.exact.specs.Bounds.{Within};
 ghost use Rattle.model.specs.Job.{Job, Live, normal, overload};
 ghost use Rattle.model.specs.Line.{HN, HO};
 ghost use Rattle.model.specs.Traffic.{effectOf};
 ghost use Rattle.magnitudes.specs.Magnitudes.{hnLineMost, hoLineMost, sumMost, trafficMost};
-ghost use Rattle.centres.specs.Spans.{AcrossFits, Spanned};
-ghost use Rattle.lanes.specs.Loadings.{LineEffectsFit, effectsOf, laneOf, LanesPlaced, LoadingOf, TrafficPlaced};
+ghost use Rattle.centres.specs.Spans.{SpanFits, AcrossFits, Spanned};
+ghost use Rattle.lanes.specs.Entries.{LineEffectsFit, chosen, chosenIn};
+ghost use Rattle.lanes.specs.Loadings.{effectsOf, laneOf, LanesPlaced, LoadingOf, TrafficPlaced};
 
 // Raising and lowering line effects of a kind.
 pub struct Effects {
@@ -25,22 +26,24 @@ pub struct Effects {
 }
 
 // Lane i of a placement: HO in its lane, HN where the set has it.
-fn lane(set: u32, ho: usize, i: usize, hn: Chosen, over: Chosen) -> Lane
-    requires { ⌜ i < 6 ⌝ }
-    ensures { λ r. ⌜ r ≡ laneOf set ho i hn over ⌝ }
+fn lane(q: Question, span: Span, best: Loading, i: usize, hn: Effects, ho: Effects) -> Lane
+    requires { ⌜ (i < 6) × SpanFits span × LineEffectsFit hoLineMost hn × LineEffectsFit hoLineMost ho ⌝ }
+    ensures { λ r. ⌜ r ≡ laneOf (best .set) (best .lane) i (chosen q span hn) (chosen q span ho) ⌝ }
 {
-    if i == ho {
-        let s = over.sense;
+    if i == best.lane {
+        let c = entries::choose(q, span, ho);
+        let s = c.sense;
         return Lane {
             entry: Entry::Ho(s),
-            centre: over.centre,
+            centre: c.centre,
         };
     }
-    if sets::has(set, i) {
-        let s = hn.sense;
+    if sets::has(best.set, i) {
+        let c = entries::choose(q, span, hn);
+        let s = c.sense;
         return Lane {
             entry: Entry::Hn(s),
-            centre: hn.centre,
+            centre: c.centre,
         };
     }
     Lane {
@@ -49,20 +52,18 @@ fn lane(set: u32, ho: usize, i: usize, hn: Chosen, over: Chosen) -> Lane
     }
 }
 
-// The lanes of a placement; `ho` is 5 where no lane carries HO.
-fn placed(set: u32, ho: usize, n: usize, hn: [Chosen; 5], over: [Chosen; 5]) -> [Lane; 5]
-    requires { ⌜ (0 < n) × (n ≤ 5) ⌝ }
-    ensures { λ r. ⌜ LanesPlaced set ho n hn over r ⌝ }
+// The lanes of a loading's placement.
+fn placed(q: Question, across: Across, best: Loading, hn: Effects, ho: Effects) -> [Lane; 5]
+    requires { ⌜ AcrossFits across × LineEffectsFit hoLineMost hn × LineEffectsFit hoLineMost ho ⌝ }
+    ensures { λ r. ⌜ LanesPlaced (best .set) (best .lane) (across .lanes) (chosenIn q across hn) (chosenIn q across ho) r ⌝ }
 {
     let none = Lane {
         entry: Entry::Unloaded,
         centre: 0,
     };
     let mut lanes = [none; 5];
-    for i in 0..n {
-        let a = hn[i];
-        let b = over[i];
-        let l = lane(set, ho, i, a, b);
+    for i in 0..across.lanes {
+        let l = lane(q, across.spans[i], best, i, hn, ho);
         lanes[i] = l;
     }
     lanes
@@ -84,46 +85,35 @@ fn found(
     across: Across,
     dynamic: usize,
     best: Loading,
-    hn: [Chosen; 5],
-    ho: [Chosen; 5],
+    hn: Effects,
+    ho: Effects,
 ) -> Extreme
-    requires { ⌜ AcrossFits across × (1000 ≤ dynamic) × (dynamic ≤ 1300) × (best .set < 32) × Within sumMost (best .value) ⌝ }
-    ensures { λ r. ⌜ Within trafficMost (r .value) × ((job : Job) (live : Live) → LoadingOf q job live across dynamic best hn ho → TrafficPlaced q job live r) ⌝ }
+    requires { ⌜ AcrossFits across × (1000 ≤ dynamic) × (dynamic ≤ 1300) × LineEffectsFit hoLineMost hn × LineEffectsFit hoLineMost ho × (best .set < 32) × Within sumMost (best .value) ⌝ }
+    ensures { λ r. ⌜ Within trafficMost (r .value) × ((job : Job) (live : Live) → LoadingOf q job live across dynamic best (chosenIn q across hn) (chosenIn q across ho) → TrafficPlaced q job live r) ⌝ }
 {
-    let lanes = placed(best.set, best.lane, across.lanes, hn, ho);
+    let lanes = placed(q, across, best, hn, ho);
     let set = sets::loaded(best.set, best.lane);
     let value = value(q, dynamic, best.value, across.unit);
     let placement = Placement { set, lanes };
     Extreme { value, placement }
 }
 
-// Normal: the best set of lanes under HN.
-pub fn normal(q: Question, across: Across, dynamic: usize, hn: Effects) -> Extreme
-    requires { ⌜ AcrossFits across × (1000 ≤ dynamic) × (dynamic ≤ 1300) × LineEffectsFit hnLineMost hn ⌝ }
-    ensures { λ r. ⌜ Within trafficMost (r .value) × ((job : Job) → Spanned job across → dynamic ≡ job .dynamic q → hn ≡ effectsOf job HN → TrafficPlaced q job normal r) ⌝ }
-{
-    let n = across.lanes;
-    let spans = across.spans;
-    let light = entries::choose_all(q, spans, n, hn.raising, hn.lowering);
-    let elements = light.all;
-    let values = light.values;
-    let best = sets::best_normal(q, values, n);
-    found(q, across, dynamic, best, elements, elements)
+// A question's traffic values.
+pub struct Extremes {
+    pub normal: Extreme,
+    pub overload: Extreme,
 }
 
-// Overload: the best lane under HO and set of others under HN.
-pub fn overload(q: Question, across: Across, dynamic: usize, hn: Effects, ho: Effects) -> Extreme
+// Normal: the best set of lanes under HN. Overload: the best lane under HO and set of others under HN.
+pub fn both(q: Question, across: Across, dynamic: usize, hn: Effects, ho: Effects) -> Extremes
     requires { ⌜ AcrossFits across × (1000 ≤ dynamic) × (dynamic ≤ 1300) × LineEffectsFit hnLineMost hn × LineEffectsFit hoLineMost ho ⌝ }
-    ensures { λ r. ⌜ Within trafficMost (r .value) × ((job : Job) → Spanned job across → dynamic ≡ job .dynamic q → hn ≡ effectsOf job HN → ho ≡ effectsOf job HO → TrafficPlaced q job overload r) ⌝ }
+    ensures { λ r. ⌜ Within trafficMost (r .normal .value) × Within trafficMost (r .overload .value) × ((job : Job) → Spanned job across → dynamic ≡ job .dynamic q → hn ≡ effectsOf job HN → ho ≡ effectsOf job HO → TrafficPlaced q job normal (r .normal) × TrafficPlaced q job overload (r .overload)) ⌝ }
 {
-    let n = across.lanes;
-    let spans = across.spans;
-    let light = entries::choose_all(q, spans, n, hn.raising, hn.lowering);
-    let heavy = entries::choose_all(q, spans, n, ho.raising, ho.lowering);
-    let light_values = light.values;
-    let heavy_values = heavy.values;
-    let best = sets::best_overload(q, light_values, heavy_values, n);
-    let light_elements = light.all;
-    let heavy_elements = heavy.all;
-    found(q, across, dynamic, best, light_elements, heavy_elements)
+    let light = entries::values(q, across, hn);
+    let heavy = entries::values(q, across, ho);
+    let set = sets::best_normal(q, light, across.lanes);
+    let pair = sets::best_overload(q, light, heavy, across.lanes);
+    let normal = found(q, across, dynamic, set, hn, hn);
+    let overload = found(q, across, dynamic, pair, hn, ho);
+    Extremes { normal, overload }
 }

@@ -3,7 +3,6 @@ use mathlib.Core.List.{List}
 use Prim.Native.Nat.{ℕ, _≤_}
 use lib.Dec.{lit≤}
 use Rattle.exact.specs.declared.Question.{Question}
-use Rattle.exact.specs.declared.Question.the-variants.{Greatest, Least}
 use Rattle.exact.proofs.Extremes.{by-question}
 use Rattle.model.specs.Job.{Job}
 use Rattle.model.specs.Decode.{decode}
@@ -11,10 +10,12 @@ use Rattle.model.specs.Line.{HN, HO}
 use Rattle.magnitudes.specs.Magnitudes.{hnLineMost, hoLineMost}
 use Rattle.centres.specs.Transverse.{TransverseFits}
 use Rattle.centres.specs.Spans.{Spanned}
-use Rattle.lanes.specs.Loadings.{LineEffectsFit, effectsOf}
+use Rattle.lanes.specs.Entries.{LineEffectsFit}
+use Rattle.lanes.specs.Loadings.{effectsOf}
 use Rattle.lanes.specs.declared.traffic.Effects.{Effects}
+use Rattle.lanes.proofs.Elements.{wider}
 use Rattle.accepted.proofs.Fits.{sized, across-fits, dynamic-limits, dynamic}
-use Rattle.accepted.proofs.Loads.{handed, effects-are, effects-fit, wider, spanned, factor-is}
+use Rattle.accepted.proofs.Loads.{handed, effects-are, effects-fit, spanned, factor-is}
 use Rattle.accepted.proofs.values.Statement.{statement}
 use Rattle.accepted.proofs.values.Tie as tie
 
@@ -78,35 +79,25 @@ module _ (c : tie.After-across-of) where
   factor : (q : Question) → c .before .before .factor .result ≡ job .dynamic q
   factor = factor-is (st .pre .0) (c .before .before .factor .ensures)
 
-normal-requires : tie.Need-normal-requires
-normal-requires c κs = (c .across-of .ensures .fits, limits c .0, limits c .1, hn-fit c)
-
-overload-requires : tie.Need-overload-requires
-overload-requires c κs = let d = c .before .before in (d .across-of .ensures .fits, limits d .0, limits d .1, hn-fit d, search (hn-wide d, ho-fit d))
-
-overload-requires-2 : tie.Need-overload-requires-2
-overload-requires-2 c κs = let d = c .before .before .before in (d .across-of .ensures .fits, limits d .0, limits d .1, hn-fit d, search (hn-wide d, ho-fit d))
+-- HN's line effects fit where HO's are asked for, so only what is ensured tells them apart
+both-requires : tie.Need-both-requires
+both-requires c κs = (c .across-of .ensures .fits, limits c .0, limits c .1, hn-fit c, search (hn-wide c, ho-fit c))
 
 returns : tie.Need-returns
 returns c =
-    let at = c .before .before .before .before in
-    let ng = c .before .before .before .normal .ensures in
-    let nl = c .before .before .normal2 .ensures in
-    let og = c .before .overload .ensures in
-    let ol = c .overload2 .ensures in
+    let found = c .before .before .before .before in
+    let at = found .before .before in
+    let most = found .before .both .ensures in
+    let lowest = found .both2 .ensures in
+    let g = most .2 (job at) (over at) (factor at _) (hn-are at) (ho-are at) in
+    let l = lowest .2 (job at) (over at) (factor at _) (hn-are at) (ho-are at) in
     record {
-      normal = record {
-        placed = by-question _ (ng .1 (job at) (over at) (factor at Greatest) (hn-are at)) (nl .1 (job at) (over at) (factor at Least) (hn-are at));
-        near = by-question _ (ng .0) (nl .0);
-      };
-      overload = record {
-        placed = by-question _ (og .1 (job at) (over at) (factor at Greatest) (hn-are at) (ho-are at)) (ol .1 (job at) (over at) (factor at Least) (hn-are at) (ho-are at));
-        near = by-question _ (og .0) (ol .0);
-      };
+      normal = record { placed = by-question _ (g .0) (l .0); near = by-question _ (most .0) (lowest .0) };
+      overload = record { placed = by-question _ (g .1) (l .1); near = by-question _ (most .1) (lowest .1) };
       laneCount = over at .lanes;
     }
 
 pub values-spec : {M : Type 1} → statement M
 values-spec =
     tie.close
-    (tie.spec (λ c κs. c .before .pre .1 .0 .near) (λ c κs. c .before .before .pre .1 .1 .near) effect-requires-3 effect-requires-4 factor-requires section-requires across-of-requires normal-requires (λ c κs. normal-requires (c .before) κs) overload-requires overload-requires-2 returns)
+    (tie.spec (λ c κs. c .before .pre .1 .0 .near) (λ c κs. c .before .before .pre .1 .1 .near) effect-requires-3 effect-requires-4 factor-requires section-requires across-of-requires both-requires (λ c κs. both-requires (c .before) κs) returns)

@@ -1,9 +1,10 @@
 use mathlib.Core.Path.{_≡_, subst}
 use Prim.Native.Nat.{ℕ, _+_, _-_, _*_, _/_, _≤_, _<_}
 use native.Mathlib.Omega.{arith}
+use lib.Dec.{lit<}
 use lib.ListN.{length}
-use mir.Syntax.{w64}
-use Rattle.exact.proofs.Held.{back}
+use mir.Syntax.{w32, w64}
+use Rattle.exact.proofs.Held.{got, cast, cast! }
 use Rattle.centres.specs.Transverse.{OrdinatesTo}
 use Rattle.centres.specs.Candidates.{BestBefore}
 use Rattle.centres.proofs.Ordinates.{ordinate-near, ordinates-left, ordinate-between, div-mono}
@@ -21,14 +22,17 @@ ordinate-requires : tie.Need-ordinate-requires Inv-loop μ-loop
 ordinate-requires c κs =
     let s = c .before in
     let a = s .args in
-    (s .pre .0, (s .pre .1 .0, ordinates-left (a .across .now) (a .d) (a .lo) (a .hi) (s .pre .0) (s .pre .1 .1 .0) (s .pre .1 .1 .1)))
+    (s .pre .0, (s .pre .1 .0, ordinates-left (a .across .now) (a .d) (a .lo) (a .hi) (s .pre .0) (s .pre .1 .1 .0) (s .pre .1 .1 .1 .0)))
+
+cast-first : tie.Need-cast-t10 Inv-loop μ-loop
+cast-first c = cast! (got w64 (c .ordinate .ok) (c .ordinate .ensures)) w32 (lit< tt)
 
 consider-requires : tie.Need-consider-requires Inv-loop μ-loop
 consider-requires c κs = let s = c .before .before in (s .pre .0, (s .pre .1 .0, s .pre .1 .1 .1))
 
 -- both numbers of ordinates are far below the section's length
 numbers : (s : tie.Start Inv-loop μ-loop) → let a = s .args in (a .lo / a .d ≤ a .hi / a .d) × (4 * (a .hi / a .d + 2) ≤ length (a .across .now))
-numbers s = (div-mono (s .pre .0) (s .pre .1 .1 .0), omega (arith, s .pre .1 .1 .1 .room))
+numbers s = (div-mono (s .pre .0) (s .pre .1 .1 .0), omega (arith, s .pre .1 .1 .1 .0 .room))
 
 add-m : tie.Need-add-m Inv-loop μ-loop
 add-m c = omega (arith, numbers (c .before .before .before))
@@ -43,11 +47,11 @@ loop-holds c =
     let o = c .before .ordinate in
     let p = s .pre .0 in
     let l = s .pre .1 .1 .0 in
-    let has = s .pre .1 .1 .1 in
+    let has = s .pre .1 .1 .1 .0 in
     let h = numbers s in (
       omega arith,
       omega arith,
-      rw (c .consider .ensures, back w64 (o .ok) (o .ensures .0))
+      rw (c .consider .ensures, cast (got w64 (o .ok) (o .ensures)) w32 (lit< tt) .is)
           (limits-tried (a .q) (a .across .now) (a .d) (a .lo) (a .hi) p l
           (ordinate-near (a .across .now) (a .d) (a .lo) p (s .pre .1 .0) (ordinates-left (a .across .now) (a .d) (a .lo) (a .hi) p l has))
           (ordinate-near (a .across .now) (a .d) (a .hi) p (s .pre .1 .0) has)),
@@ -63,10 +67,10 @@ inside c =
 has-ordinates : (c : tie.In-loop Inv-loop μ-loop) → let a = c .before .before .before .before .before .args in OrdinatesTo (a .across .now) (c .before .loop .m * a .d / a .d + 1)
 has-ordinates c =
     let s = c .before .before .before .before .before in
-    ordinates-left (s .args .across .now) (s .args .d) (c .before .loop .m * s .args .d) (s .args .hi) (s .pre .0) (inside c .1) (s .pre .1 .1 .1)
+    ordinates-left (s .args .across .now) (s .args .d) (c .before .loop .m * s .args .d) (s .args .hi) (s .pre .0) (inside c .1) (s .pre .1 .1 .1 .0)
 
 consider-requires-2 : tie.Need-consider-requires-2 Inv-loop μ-loop
-consider-requires-2 c κs = let s = c .before .before .before .before .before in (s .pre .0, (s .pre .1 .0, has-ordinates c))
+consider-requires-2 c κs = let s = c .before .before .before .before .before in (s .pre .0, (s .pre .1 .0, (has-ordinates c, omega (arith, inside c))))
 
 loop-again : tie.Need-loop-again Inv-loop μ-loop
 loop-again c =
@@ -92,4 +96,4 @@ returns c =
 pub best-spec : {M : Type 1} → statement M
 best-spec =
     tie.close
-    (tie.spec Inv-loop μ-loop ordinate-requires consider-requires (λ c. c .before .before .before .pre .0) add-m (λ c. c .before .before .before .pre .0) add-m-end loop-holds (λ c. let h = inside c in omega arith) consider-requires-2 (λ c. omega arith) (λ c. omega arith) loop-again returns)
+    (tie.spec Inv-loop μ-loop ordinate-requires cast-first (λ c. omega arith) consider-requires (λ c. c .before .before .before .pre .0) add-m (λ c. c .before .before .before .pre .0) add-m-end loop-holds (λ c. let h = inside c in omega arith) consider-requires-2 (λ c. omega arith) (λ c. omega arith) loop-again returns)

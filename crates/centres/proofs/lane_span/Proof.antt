@@ -11,13 +11,13 @@ bounds : (s : tie.Start) → let a = s .args in Limits (a .across .now) (a .widt
 bounds s = let a = s .args in limits (a .across .now) (a .width) (a .n) (a .g) (a .i) (s .pre .0) (s .pre .1 .0) (s .pre .1 .1)
 
 best-requires : tie.Need-best-requires
-best-requires c κs = let b = bounds (c .before) in (b .apart, (b .close, (omega (arith, b .order), b .ordinates)))
+best-requires c κs = let b = bounds (c .before) in (b .apart, (b .close, (omega (arith, b .order), (b .ordinates, omega (arith, b .last)))))
 
 mul-best-2 : tie.Need-mul-best-2
 mul-best-2 c = omega (arith, bounds (c .before .before))
 
 best-requires-2 : tie.Need-best-requires-2
-best-requires-2 c κs = let b = bounds (c .before .before) in (b .apart, (b .close, (omega (arith, b .order), b .ordinates)))
+best-requires-2 c κs = let b = bounds (c .before .before) in (b .apart, (b .close, (omega (arith, b .order), (b .ordinates, omega (arith, b .last)))))
 
 returns : tie.Need-returns
 returns c =

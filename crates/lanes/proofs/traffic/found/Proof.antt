@@ -7,22 +7,23 @@ use Rattle.exact.specs.Bounds.{Within}
 use Rattle.exact.proofs.Held.{known, back, told}
 use Rattle.model.specs.Traffic.{effectOf}
 use Rattle.magnitudes.specs.Magnitudes.{trafficMost}
+use Rattle.lanes.specs.Entries.{chosenIn}
 use Rattle.lanes.proofs.Placements.{traffic-placed}
 use Rattle.lanes.proofs.traffic.found.Statement.{statement}
 use Rattle.lanes.proofs.traffic.found.Tie as tie
 
 value-requires : tie.Need-value-requires
-value-requires c κs = let s = c .before .before .before in (s .pre .1, s .pre .2, s .pre .0 .apart, s .pre .0 .close, told (known w64 (s .pre .4) (lit< tt)) .1)
+value-requires c κs = let s = c .before .before .before in (s .pre .1, s .pre .2, s .pre .0 .apart, s .pre .0 .close, told (known w64 (s .pre .6) (lit< tt)) .1)
 
 returns : tie.Need-returns
 returns c =
     let s = c .before .before .before .before in
     let a = s .args in
     let v : toZ w64 (ofZ w64 (c .value .result)) ≡ effectOf (a .q) (a .dynamic) (a .best .value) (a .across .unit) =
-    back w64 (c .value .ok) (c .value .ensures .0 ∙ ap (λ (z : ℤ). effectOf (a .q) (a .dynamic) z (a .across .unit)) (known w64 (s .pre .4) (lit< tt) .is)) in (
+    back w64 (c .value .ok) (c .value .ensures .0 ∙ ap (λ (z : ℤ). effectOf (a .q) (a .dynamic) z (a .across .unit)) (known w64 (s .pre .6) (lit< tt) .is)) in (
       subst (Within trafficMost) (sym (back w64 (c .value .ok) refl)) (c .value .ensures .1),
-      λ job live f. traffic-placed (a .q) job live (a .across) (a .dynamic) (a .best) (a .hn) (a .ho) f (s .pre .0 .few) _ v (c .before .before .loaded .ensures) (c .before .before .before .placed .ensures),
+      λ job live f. traffic-placed (a .q) job live (a .across) (a .dynamic) (a .best) (chosenIn (a .q) (a .across) (a .hn)) (chosenIn (a .q) (a .across) (a .ho)) f (s .pre .0 .few) _ v (c .before .before .loaded .ensures) (c .before .before .before .placed .ensures),
     )
 
 pub found-spec : {M : Type 1} → statement M
-found-spec = tie.close (tie.spec (λ c κs. (c .pre .0 .some, c .pre .0 .few)) (λ c κs. c .before .pre .3) value-requires returns)
+found-spec = tie.close (tie.spec (λ c κs. (c .pre .0, c .pre .3, c .pre .4)) (λ c κs. c .before .pre .5) value-requires returns)
