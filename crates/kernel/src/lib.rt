@@ -17,38 +17,38 @@ ghost use mathlib.Core.Path.{_≡_};
 ghost use Rattle.model.specs.Answered.{refusalAnswer, Answered};
 
 // A lane that carries nothing.
-const EMPTY: Lane = Lane {
+const EMPTY_LANE: Lane = Lane {
     entry: Entry::Unloaded,
     centre: 0,
 };
 
 // A value of 0 with every lane unloaded.
-const ZERO: Extreme = Extreme {
+const NO_EXTREME: Extreme = Extreme {
     value: 0,
     placement: Placement {
         set: 0,
-        lanes: [EMPTY; 5],
+        lanes: [EMPTY_LANE; 5],
     },
 };
 
 // A live kind's two values, both 0.
-const NO_TRAFFIC: Traffic = Traffic {
-    greatest: ZERO,
-    least: ZERO,
+const ZERO_TRAFFIC: Traffic = Traffic {
+    greatest: NO_EXTREME,
+    least: NO_EXTREME,
 };
 
-// Station 0, on the left.
-const ORIGIN: Position = Position {
+// Station 0, and the side that is numbered 0.
+const ZERO_POSITION: Position = Position {
     station: 0,
     side: Side::Left,
 };
 
 // The account of a refusal.
-const NO_ACCOUNT: Account = Account {
-    normal: NO_TRAFFIC,
-    overload: NO_TRAFFIC,
-    raising: ORIGIN,
-    lowering: ORIGIN,
+const ZERO_ACCOUNT: Account = Account {
+    normal: ZERO_TRAFFIC,
+    overload: ZERO_TRAFFIC,
+    raising: ZERO_POSITION,
+    lowering: ZERO_POSITION,
     service: State::Absent,
     ultimate: State::Absent,
     lanes: 0,
@@ -61,7 +61,7 @@ fn refused(number: u32, place: u32) -> Answer
     Answer {
         refusal: number,
         place,
-        account: NO_ACCOUNT,
+        account: ZERO_ACCOUNT,
     }
 }
 

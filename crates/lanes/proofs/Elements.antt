@@ -37,7 +37,7 @@ order-of : (q : Question) (span : Span) → SpanFits span → NoBetter (other q)
 order-of Greatest span h = h .order
 order-of Least span h = h .order
 
--- its effect is the better of the two
+-- a chosen element's effect is the better of the two
 chosen-value : (q : Question) (span : Span) (e : Effects) → chosen q span e .value ≡ better q (raised q span e) (lowered q span e)
 chosen-value q span e =
     by-test (beats q (lowered q span e) (raised q span e)) (λ t. elementOf q span e t .value ≡ better q (raised q span e) (lowered q span e))

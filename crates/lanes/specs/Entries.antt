@@ -37,16 +37,16 @@ raised q span e = bestOf q span .ordinate *ℤ e .raising
 abbrev pub lowered : Question → Span → Effects → ℤ
 lowered q span e = bestOf (other q) span .ordinate *ℤ e .lowering
 
--- a lane's element: lowering, or raising
+-- a lane's lowering element, or its raising one
 abbrev pub elementOf : Question → Span → Effects → (lowers : Bool) → Chosen
 elementOf q span e lowers =
     if lowers then record { value = lowered q span e; sense = Lowering; centre = bestOf (other q) span .at }
     else record { value = raised q span e; sense = Raising; centre = bestOf q span .at }
 
--- the better of the two, raising at a tie
+-- the better of a lane's two elements, raising at a tie
 abbrev pub chosen : Question → Span → Effects → Chosen
 chosen q span e = elementOf q span e (beats q (lowered q span e) (raised q span e))
 
--- lane i's
+-- the better element of lane i
 abbrev pub chosenIn : Question → Across → Effects → ℕ → Chosen
 chosenIn q across e i = chosen q (getD (across .spans) i noSpan) e

@@ -1,8 +1,8 @@
 use mathlib.Core.Path.{refl}
+use Prim.Native.Nat.{_^_}
 use lib.Dec.{lit<}
 use mir.Syntax.{w32, w64}
 use borrow.Author.Needs.{needs}
-use Prim.Native.Nat.{_^_}
 use Rattle.exact.proofs.Held.{Kept, any, ok-fits, got, cast, cast!, beats-held}
 use Rattle.magnitudes.specs.Magnitudes.{transverseMost}
 use Rattle.centres.specs.Candidates.{ordinateAt}
