@@ -1,0 +1,126 @@
+//! Makes sound jobs: draws the header and puts the parts together, or sets
+//! every number at an end of its limits.
+
+use super::line::sound_line;
+use super::sign;
+use super::tables::{scramble_unused, sound_effects, sound_records, sound_rows};
+use super::transverse::sound_transverse;
+use crate::job::{
+    Effect, Job, Piece, Record, Row, ALWAYS_PRESENT, LIVE_NORMAL, LIVE_OVERLOAD, MAY_BE_LEFT_OUT,
+    SERVICE, ULTIMATE,
+};
+use crate::loads::AXLE_DISTANCE;
+use crate::rng::Rng;
+
+const PIECE_LENGTHS: [i64; 6] = [1, 2, 5, 10, 25, 50];
+pub(super) const LONGEST_LINE: i64 = 1000;
+
+/// A job that 01 names no refusal for, given a long enough patch buffer.
+pub fn sound_job(rng: &mut Rng) -> Job {
+    if rng.one_in(32) {
+        return extreme_job(rng);
+    }
+    let piece_length = rng.pick(&PIECE_LENGTHS);
+    let most_pieces = LONGEST_LINE / piece_length;
+    let pieces = match rng.below(8) {
+        0 => 1,
+        1 => most_pieces,
+        2 | 3 => rng.between(1, most_pieces.min(4)),
+        4 => rng.between(1, most_pieces),
+        _ => rng.between(1, most_pieces.min(60)),
+    };
+    let spacing = match rng.below(4) {
+        0 => 10,
+        1 => 50,
+        _ => rng.between(10, 50),
+    };
+    let width = sound_width(rng);
+    let (dynamic_kind, dynamic_value) = sound_dynamic(rng);
+    let last_ordinate = (width + spacing - 1) / spacing;
+    let effects = sound_effects(rng);
+    let mut records = sound_records(rng, effects.len());
+    let rows = sound_rows(rng, records.len());
+    scramble_unused(rng, &rows, &mut records, effects.len());
+    Job {
+        piece_length,
+        spacing,
+        width,
+        dynamic_kind,
+        dynamic_value,
+        pieces: sound_line(
+            rng,
+            pieces as usize,
+            (AXLE_DISTANCE / piece_length) as usize,
+        ),
+        transverse: sound_transverse(rng, last_ordinate as usize + 1),
+        effects,
+        rows,
+        records,
+    }
+}
+
+/// A job with every number at an end of its limits, so that the values are the
+/// largest there are.
+fn extreme_job(rng: &mut Rng) -> Job {
+    let piece_length = rng.pick(&PIECE_LENGTHS);
+    let spacing = rng.pick(&[10, 49, 50]);
+    let width = rng.pick(&[1710, 2079]);
+    let ordinate = 5000 * sign(rng);
+    let level = 1000 * sign(rng);
+    let value = 1_000_000_000 * sign(rng);
+    let mark = rng.pick(&[ALWAYS_PRESENT, MAY_BE_LEFT_OUT]);
+    let piece = Piece {
+        left: ordinate,
+        right: ordinate,
+    };
+    let row = |state, live_kind| Row {
+        state,
+        live_kind,
+        live_factor: 3000,
+        first: 1,
+    };
+    let last_ordinate = (width + spacing - 1) / spacing;
+    Job {
+        piece_length,
+        spacing,
+        width,
+        dynamic_kind: 1,
+        dynamic_value: 1300,
+        pieces: vec![piece; (LONGEST_LINE / piece_length) as usize],
+        transverse: vec![level; last_ordinate as usize + 1],
+        effects: vec![Effect { value, mark }; 16],
+        rows: vec![row(SERVICE, LIVE_NORMAL), row(ULTIMATE, LIVE_OVERLOAD)],
+        records: (1..=16)
+            .map(|number| Record {
+                effect: number,
+                factor: 3000,
+                next: if number < 16 { number + 1 } else { 0 },
+            })
+            .collect(),
+    }
+}
+
+fn sound_width(rng: &mut Rng) -> i64 {
+    const LANE_LIMITS: [i64; 10] = [300, 599, 600, 969, 970, 1339, 1340, 1709, 1710, 2079];
+    match rng.below(3) {
+        0 => rng.pick(&LANE_LIMITS),
+        1 => (rng.pick(&LANE_LIMITS) + rng.between(-2, 2)).clamp(300, 2079),
+        _ => rng.between(300, 2079),
+    }
+}
+
+fn sound_dynamic(rng: &mut Rng) -> (i64, i64) {
+    match rng.below(4) {
+        0 => (2, 0),
+        1 => (1, rng.pick(&[1000, 1001, 1299, 1300])),
+        2 => (1, rng.between(1000, 1300)),
+        _ => {
+            let around_100 = rng.between(97, 103);
+            let any = rng.between(0, 5000);
+            (
+                3,
+                rng.pick(&[0, 1, 50, 99, 100, 101, 5000, around_100, any]),
+            )
+        }
+    }
+}

@@ -1,0 +1,114 @@
+//! Makes faults in a job's words: a word outside its limits, or words too few
+//! or too many.
+
+use super::first_last_or_any;
+use super::sound::LONGEST_LINE;
+use crate::rng::Rng;
+use crate::sections::{
+    self, Sections, HEADER_WORDS, WORDS_PER_EFFECT, WORDS_PER_RECORD, WORDS_PER_ROW,
+};
+
+/// A number just outside limits or far from them.
+fn outside(rng: &mut Rng, from: i32, to: i32) -> i32 {
+    let below = rng.between(i32::MIN.into(), i64::from(from) - 1) as i32;
+    let above = rng.between(i64::from(to) + 1, i32::MAX.into()) as i32;
+    rng.pick(&[
+        from - 1,
+        from - 1,
+        to + 1,
+        to + 1,
+        i32::MIN,
+        i32::MAX,
+        below,
+        above,
+    ])
+}
+
+pub(super) fn spoil_a_factor_word(rng: &mut Rng, words: &mut [i32], sections: &Sections) {
+    let (effects, records) = (words[sections::EFFECTS], words[sections::RECORDS]);
+    let section = rng.pick(&[&sections.effects, &sections.rows, &sections.records]);
+    // There are always rows.
+    let section = if section.is_empty() {
+        &sections.rows
+    } else {
+        section
+    };
+    let place = section.start + first_last_or_any(rng, section.len());
+    let within = place - section.start;
+    words[place] = if section == &sections.effects {
+        match within % WORDS_PER_EFFECT {
+            0 => outside(rng, -1_000_000_000, 1_000_000_000),
+            _ => outside(rng, 1, 2),
+        }
+    } else if section == &sections.rows {
+        match within % WORDS_PER_ROW {
+            0 => outside(rng, 1, 2),
+            1 => outside(rng, 0, 2),
+            // Kind 0 has no live factor.
+            2 if words[place - 1] == 0 => rng.pick(&[1, 1000, 3000, -1]),
+            2 => outside(rng, 0, 3000),
+            _ => outside(rng, 0, records),
+        }
+    } else {
+        match within % WORDS_PER_RECORD {
+            0 => outside(rng, 1, effects),
+            1 => outside(rng, 0, 3000),
+            _ => outside(rng, 0, records),
+        }
+    };
+}
+
+pub(super) fn spoil_an_ordinate(rng: &mut Rng, words: &mut [i32], sections: &Sections) {
+    let (section, most) = rng.pick(&[(&sections.line, 5000), (&sections.transverse, 1000)]);
+    let place = section.start + first_last_or_any(rng, section.len());
+    words[place] = outside(rng, -most, most);
+}
+
+/// Words too few or too many, or a header that calls for others.
+pub(super) fn spoil_the_count(rng: &mut Rng, words: &mut Vec<i32>) {
+    match rng.below(3) {
+        0 => {
+            let fewer = HEADER_WORDS + rng.index(words.len() - HEADER_WORDS);
+            let one_fewer = words.len() - 1;
+            words.truncate(rng.pick(&[fewer, one_fewer, one_fewer]));
+        }
+        1 => {
+            let more = rng.pick(&[1, 1, 2, 3, 4, 50]);
+            words.extend((0..more).map(|_| rng.between(-3, 3) as i32));
+        }
+        _ => {
+            let (place, from, to) = rng.pick(&[
+                (sections::PIECES, 1, 20),
+                (sections::SPACING, 10, 50),
+                (sections::WIDTH, 300, 2079),
+                (sections::EFFECTS, 0, 16),
+                (sections::ROWS, 1, 32),
+                (sections::RECORDS, 0, 512),
+            ]);
+            words[place] = rng.between(from, to) as i32;
+        }
+    }
+}
+
+pub(super) fn spoil_a_header_word(rng: &mut Rng, words: &mut [i32]) {
+    let place = 1 + rng.index(HEADER_WORDS - 1);
+    words[place] = match place {
+        sections::PIECE_LENGTH => rng.pick(&[0, -1, 3, 4, 6, 24, 26, 49, 51, i32::MIN, i32::MAX]),
+        sections::PIECES => {
+            let too_long = (LONGEST_LINE / i64::from(words[sections::PIECE_LENGTH]).max(1)) as i32;
+            let far = outside(rng, 1, 1000);
+            rng.pick(&[too_long + 1, too_long + 1, 1000 + too_long, far])
+        }
+        sections::SPACING => outside(rng, 10, 50),
+        sections::WIDTH => outside(rng, 300, 2079),
+        sections::DYNAMIC_KIND => outside(rng, 1, 3),
+        sections::DYNAMIC_VALUE => match words[sections::DYNAMIC_KIND] {
+            1 => outside(rng, 1000, 1300),
+            2 => outside(rng, 0, 0),
+            _ => outside(rng, 0, 5000),
+        },
+        sections::EFFECTS => outside(rng, 0, 16),
+        sections::ROWS => outside(rng, 1, 32),
+        _ => outside(rng, 0, 512),
+    };
+}
