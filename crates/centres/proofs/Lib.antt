@@ -1,3 +1,3 @@
 pub mod Ordinates
 pub mod Candidates
-pub mod Limits
+pub mod LaneLimits

@@ -18,7 +18,7 @@ use Rattle.model.proofs.Unbeaten.{unbeaten}
 use Rattle.model.proofs.Signs.{no-traffic}
 use Rattle.model.proofs.Attained.{reported-lawful, reported-gives}
 use Rattle.rows.specs.Governed.{trafficOf}
-use Rattle.rows.proofs.Limits.{Given, state-right}
+use Rattle.rows.proofs.LimitStates.{Given, state-right}
 use Rattle.accepted.specs.AccountParts.{reportedLive, PartsRight}
 use Rattle.lanes.specs.Loadings.{TrafficPlaced}
 

@@ -1,4 +1,4 @@
 mod Loaded
 pub mod Choosing
 pub mod Sections
-pub mod Limits
+pub mod LimitStates

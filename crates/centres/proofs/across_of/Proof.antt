@@ -2,7 +2,7 @@ use Prim.Native.Nat.{_*_, _≤_}
 use native.Mathlib.Nat.{mul-le-mul}
 use native.Mathlib.Omega.{arith}
 use borrow.Author.Needs.{needs}
-use Rattle.centres.proofs.Limits.{across-right}
+use Rattle.centres.proofs.LaneLimits.{across-right}
 use Rattle.centres.proofs.across_of.Statement.{statement}
 use Rattle.centres.proofs.across_of.Tie as tie
 

@@ -1,7 +1,7 @@
 use Prim.Native.Nat.{_<_}
 use native.Mathlib.Omega.{arith}
 use Rattle.exact.specs.declared.Question.the-variants.{Greatest, Least}
-use Rattle.centres.proofs.Limits.{Limits, limits, centre-right}
+use Rattle.centres.proofs.LaneLimits.{Limits, limits, centre-right}
 use borrow.Author.Needs.{needs}
 use Rattle.centres.proofs.lane_span.Statement.{statement}
 use Rattle.centres.proofs.lane_span.Tie as tie
