@@ -118,8 +118,8 @@ impl LoadedLane {
         let uniform: i128 = ranges.map(|range| uniform_load_on(job, range, k)).sum();
         let apart = i128::from(AXLE_DISTANCE / job.piece_length) * k;
         // In U times k.
-        let under_axles = ordinate_at(job, self.left_axle, self.side, k)
-            + ordinate_at(job, self.left_axle + apart, self.side, k);
+        let under_axles = ordinate_at(&job.pieces, self.left_axle, self.side, k)
+            + ordinate_at(&job.pieces, self.left_axle + apart, self.side, k);
         let axle_load = i128::from(self.element.axle_load());
         Fraction::new(uniform + axle_load * under_axles * k, k * k)
     }
@@ -149,7 +149,7 @@ fn uniform_load_on(job: &Job, range: &Range<i128>, k: i128) -> i128 {
 
 /// The ordinate, times k, under an axle this many k-ths of a piece from the
 /// line's left end; at a station, the one on its side.
-pub(crate) fn ordinate_at(job: &Job, place: i128, side: Side, k: i128) -> i128 {
+pub(crate) fn ordinate_at(line: &[Piece], place: i128, side: Side, k: i128) -> i128 {
     let (number, beyond) = (place.div_euclid(k), place.rem_euclid(k));
     // An axle at a station, seen from the left, is at the end of the piece
     // before it.
@@ -159,7 +159,7 @@ pub(crate) fn ordinate_at(job: &Job, place: i128, side: Side, k: i128) -> i128 {
     };
     let piece = usize::try_from(number)
         .ok()
-        .and_then(|number| job.pieces.get(number));
+        .and_then(|number| line.get(number));
     piece.map_or(0, |piece| {
         i128::from(piece.left) * (k - beyond) + i128::from(piece.right) * beyond
     })

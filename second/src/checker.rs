@@ -55,7 +55,11 @@ pub fn check(
     check_state(&job, &answer.account, &expected.account, ULTIMATE)
 }
 
-fn same<T: PartialEq + std::fmt::Display>(what: &str, found: T, due: T) -> Result<(), String> {
+pub(crate) fn same<T: PartialEq + std::fmt::Display>(
+    what: &str,
+    found: T,
+    due: T,
+) -> Result<(), String> {
     if found == due {
         Ok(())
     } else {

@@ -1,8 +1,12 @@
 //! Generates jobs from a seed: sound ones of every shape, damaged ones for
 //! every refusal, and plain bytes. Each edition has a stream of its own, in
-//! which a seed gives the same case always, whatever other editions bring.
+//! which a seed gives the same case always, whatever other editions bring. The
+//! trains have one too.
 
+mod draws;
 pub mod edition_1;
+mod line;
+pub mod train;
 
 /// A job's bytes and a patch buffer, with its contents before the call.
 #[derive(Debug, Clone, PartialEq, Eq)]

@@ -1,5 +1,6 @@
 //! 01 "The job's words": a job decoded into its fields, and encoded again.
 
+use crate::line;
 use crate::sections::{self, Sections};
 use crate::words;
 
@@ -83,13 +84,7 @@ impl Job {
             width: word(sections::WIDTH),
             dynamic_kind: word(sections::DYNAMIC_KIND),
             dynamic_value: word(sections::DYNAMIC_VALUE),
-            pieces: words[sections.line]
-                .chunks_exact(sections::WORDS_PER_PIECE)
-                .map(|piece| Piece {
-                    left: number(piece[0]),
-                    right: number(piece[1]),
-                })
-                .collect(),
+            pieces: line::pieces_of(&words[sections.line]),
             transverse: words[sections.transverse]
                 .iter()
                 .map(|&word| number(word))
@@ -135,9 +130,7 @@ impl Job {
             self.rows.len() as i64,
             self.records.len() as i64,
         ];
-        for piece in &self.pieces {
-            words.extend([piece.left, piece.right]);
-        }
+        words.extend(line::ordinates_of(&self.pieces));
         words.extend(&self.transverse);
         for effect in &self.effects {
             words.extend([effect.value, effect.mark]);

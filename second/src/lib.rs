@@ -1,6 +1,7 @@
 //! A second implementation of the HN-HO-72 load kernel for girder lines,
-//! written from paper 01 alone and shaped like its definitions. "01" in the
-//! comments is that paper; a quoted title names its section.
+//! written from papers 01 and 02 alone and shaped like their definitions. "01"
+//! and "02" in the comments are those papers; a quoted title names a section of
+//! 01 or a request of 02.
 
 #![forbid(unsafe_code)]
 
@@ -24,6 +25,7 @@ pub mod sections;
 pub mod solve;
 pub mod store;
 pub mod traffic;
+pub mod train;
 pub mod words;
 
 pub use account::{Account, Answer};

@@ -3,9 +3,33 @@
 
 use crate::job::{Job, Piece};
 use crate::loads::{Direction, Element, Question, Side, AXLE_DISTANCE, UNIFORM_LOAD};
+use crate::sections::WORDS_PER_PIECE;
+use crate::words;
 
-/// Where a pair stands: the station of its left axle, in pieces from the
-/// line's left end, and the side from which both axles count.
+/// The pieces of a line's section.
+pub fn pieces_of(section: &[i32]) -> Vec<Piece> {
+    section
+        .chunks_exact(WORDS_PER_PIECE)
+        .map(|piece| Piece {
+            left: piece[0].into(),
+            right: piece[1].into(),
+        })
+        .collect()
+}
+
+/// The ordinates of a line's section, a left and a right one a piece.
+pub fn ordinates_of(line: &[Piece]) -> impl Iterator<Item = i64> + '_ {
+    line.iter().flat_map(|piece| [piece.left, piece.right])
+}
+
+/// The bytes of a line's section.
+pub fn section_bytes(line: &[Piece]) -> Vec<u8> {
+    let words: Vec<i32> = ordinates_of(line).map(|word| word as i32).collect();
+    words::bytes_of(&words)
+}
+
+/// Where a pair or a train stands: the station of its leftmost axle, in pieces
+/// from the line's left end, and the side from which all its axles count.
 #[derive(Debug, Clone, Copy, PartialEq, Eq)]
 pub struct Stand {
     pub station: i64,
@@ -13,11 +37,11 @@ pub struct Stand {
 }
 
 /// The ordinate just left or just right of a station; 0 outside the line.
-pub fn ordinate(job: &Job, stand: Stand) -> i64 {
+pub fn ordinate(line: &[Piece], stand: Stand) -> i64 {
     let piece_at = |number: i64| {
         usize::try_from(number)
             .ok()
-            .and_then(|number| job.pieces.get(number))
+            .and_then(|number| line.get(number))
     };
     match stand.side {
         Side::Left => piece_at(stand.station - 1).map_or(0, |piece| piece.right),
@@ -36,7 +60,7 @@ pub fn pair_ordinates(job: &Job, stand: Stand) -> i64 {
         station: stand.station + pieces_between_axles(job),
         side: stand.side,
     };
-    ordinate(job, stand) + ordinate(job, right_axle)
+    ordinate(&job.pieces, stand) + ordinate(&job.pieces, right_axle)
 }
 
 /// The stations tried: from the right axle at the line's left end to the left

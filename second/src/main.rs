@@ -1,10 +1,13 @@
 //! 01 "The host and the program": reads a job from standard input and prints
-//! its four lines, or `refused NUMBER at PLACE`. Further commands are in USAGE.
+//! its four lines, or `refused NUMBER at PLACE`. Further commands are in USAGE,
+//! among them 02 "Rating trucks".
 
 use second::generator::{self, Edition};
 use second::job::Job;
 use second::lanes::lane_count;
-use second::{job_a, report, sampler, solve, store, words};
+use second::train::page::{page, truck_line};
+use second::train::{self, Axle, TrainCase, REPORT_BYTES};
+use second::{job_a, line, report, sampler, solve, store, words};
 use std::fs;
 use std::io::{self, Read, Write};
 use std::path::Path;
@@ -15,6 +18,11 @@ const USAGE: &str = "usage:
   second account < JOB             print the whole account, or the refusal
   second beat SEED TRIES < JOB     try to beat the job's account by random draws
   second job-a                     write Job A's bytes to standard output
+  second train H MODE LOAD@AT.. < LINE
+                                   print the rating of a train on a line's
+                                   section, or the refusal
+  second truck-line                write the truck line's section to standard
+                                   output; its H is 2
   second generate EDITION SEED COUNT DIR
                                    write COUNT cases of EDITION's stream from
                                    SEED on into DIR, as SEED.job and SEED.patch;
@@ -28,6 +36,9 @@ const MOST_INPUT_BYTES: u64 = 16384;
 
 /// The patch buffer the program lends: a byte for each of the most pieces.
 const PATCH_BYTES: usize = 1000;
+
+/// A piece of a line's section.
+const PIECE_BYTES: u64 = 8;
 
 enum Failure {
     Usage,
@@ -56,7 +67,7 @@ fn main() -> ExitCode {
 fn run(arguments: &[&str]) -> Result<(), Failure> {
     match arguments {
         [] => {
-            let answer = solve(&read_job()?, &mut [0; PATCH_BYTES]);
+            let answer = solve(&read_input()?, &mut [0; PATCH_BYTES]);
             write_out(report::report(&answer).as_bytes())
         }
         ["account"] => account(),
@@ -65,6 +76,8 @@ fn run(arguments: &[&str]) -> Result<(), Failure> {
             beat(number(seed)?, tries)
         }
         ["job-a"] => write_out(&job_a::job_a().bytes()),
+        ["train", h, mode, axles @ ..] => train(number(h)?, number(mode)?, axles),
+        ["truck-line"] => write_out(&line::section_bytes(&truck_line())),
         ["generate", edition, seed, count, directory] => {
             let edition = Edition::of_number(number(edition)?).ok_or(Failure::Usage)?;
             generate(edition, number(seed)?, number(count)?, Path::new(directory))
@@ -79,7 +92,7 @@ fn number(argument: &str) -> Result<u64, Failure> {
 }
 
 fn account() -> Result<(), Failure> {
-    let job = read_job()?;
+    let job = read_input()?;
     let answer = solve(&job, &mut [0; PATCH_BYTES]);
     if answer.refusal != 0 {
         return write_out(report::report(&answer).as_bytes());
@@ -90,7 +103,7 @@ fn account() -> Result<(), Failure> {
 }
 
 fn beat(seed: u64, tries: u32) -> Result<(), Failure> {
-    let job = read_job()?;
+    let job = read_input()?;
     let answer = solve(&job, &mut [0; PATCH_BYTES]);
     if answer.refusal != 0 {
         return write_out(report::report(&answer).as_bytes());
@@ -100,6 +113,30 @@ fn beat(seed: u64, tries: u32) -> Result<(), Failure> {
         None => write_out(format!("not beaten in {tries} tries\n").as_bytes()),
         Some(beating) => Err(Failure::Other(format!("beaten by {beating:#?}"))),
     }
+}
+
+fn train(h: u64, mode: u64, axles: &[&str]) -> Result<(), Failure> {
+    let axles: Result<Vec<Axle>, Failure> = axles.iter().map(|argument| axle(argument)).collect();
+    let line = read_input()?;
+    let case = TrainCase {
+        h,
+        pieces: line.len() as u64 / PIECE_BYTES,
+        line,
+        train: axles?,
+        mode,
+        report: vec![0; REPORT_BYTES],
+    };
+    write_out(page(&train::rate(&case)).as_bytes())
+}
+
+/// An axle as LOAD@AT.
+fn axle(argument: &str) -> Result<Axle, Failure> {
+    let (load, at) = argument.split_once('@').ok_or(Failure::Usage)?;
+    let number = |argument: &str| argument.parse().map_err(|_| Failure::Usage);
+    Ok(Axle {
+        load: number(load)?,
+        at: number(at)?,
+    })
 }
 
 fn generate(edition: Edition, first: u64, count: u64, directory: &Path) -> Result<(), Failure> {
@@ -124,14 +161,14 @@ fn write_file(path: &Path, bytes: &[u8]) -> Result<(), Failure> {
         .map_err(|error| Failure::Other(format!("cannot write {}: {error}", path.display())))
 }
 
-fn read_job() -> Result<Vec<u8>, Failure> {
-    let mut job = Vec::new();
+fn read_input() -> Result<Vec<u8>, Failure> {
+    let mut input = Vec::new();
     io::stdin()
         .lock()
         .take(MOST_INPUT_BYTES)
-        .read_to_end(&mut job)
+        .read_to_end(&mut input)
         .map_err(|error| Failure::Other(format!("cannot read standard input: {error}")))?;
-    Ok(job)
+    Ok(input)
 }
 
 fn write_out(bytes: &[u8]) -> Result<(), Failure> {

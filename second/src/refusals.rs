@@ -6,6 +6,11 @@ use crate::sections::{
     WORDS_PER_ROW,
 };
 use crate::words::{self, WORD_BYTES};
+use std::ops::Range;
+
+/// The most an ordinate of either line is away from 0.
+pub const MOST_IN_LINE: i32 = 5000;
+pub const MOST_ACROSS: i32 = 1000;
 
 /// A refusal's number and word place.
 #[derive(Debug, Clone, Copy, PartialEq, Eq)]
@@ -16,34 +21,33 @@ pub struct Refusal {
 
 /// The refusal 01 names for these bytes and a patch buffer of this length.
 pub fn refusal(job: &[u8], patch_bytes: usize) -> Option<Refusal> {
-    match first_place(job, patch_bytes) {
-        Ok(()) => None,
-        Err((number, place)) => Some(Refusal {
-            number,
-            place: place as u64,
-        }),
-    }
+    test_all(job, patch_bytes).err()
 }
 
-fn first_place(job: &[u8], patch_bytes: usize) -> Result<(), (u64, usize)> {
+fn test_all(job: &[u8], patch_bytes: usize) -> Result<(), Refusal> {
     let words = words::words_of(job);
     let words = words.as_slice();
     test(1, not_a_job(job, words))?;
     test(2, header_word_outside(words))?;
     let sections = Sections::called_for_by(words);
     test(3, wrong_word_count(words, &sections))?;
-    test(4, ordinate_outside(words, &sections))?;
-    test(5, piece_of_two_signs(words, &sections))?;
+    test(4, ordinate_of_a_job_outside(words, &sections))?;
+    let crossing = piece_of_two_signs(&words[sections.line.clone()]);
+    test(5, crossing.map(|within| sections.line.start + within))?;
     test(6, factor_word_outside(words, &sections))?;
     test(7, chain_with_return(words, &sections))?;
     test(8, chain_naming_twice(words, &sections))?;
     test(9, short_patch_buffer(words, patch_bytes))
 }
 
-fn test(number: u64, place: Option<usize>) -> Result<(), (u64, usize)> {
+/// A test that finds the lowest place at fault, if any, for a refusal's number.
+pub(crate) fn test(number: u64, place: Option<usize>) -> Result<(), Refusal> {
     match place {
         None => Ok(()),
-        Some(place) => Err((number, place)),
+        Some(place) => Err(Refusal {
+            number,
+            place: place as u64,
+        }),
     }
 }
 
@@ -65,11 +69,8 @@ fn header_word_outside(words: &[i32]) -> Option<usize> {
 fn header_word_lawful(words: &[i32], place: usize) -> bool {
     let word = words[place];
     match place {
-        sections::PIECE_LENGTH => [1, 2, 5, 10, 25, 50].contains(&word),
-        sections::PIECES => {
-            let line_length = i64::from(word) * i64::from(words[sections::PIECE_LENGTH]);
-            (1..=1000).contains(&word) && line_length <= 1000
-        }
+        sections::PIECE_LENGTH => piece_length_lawful(word.into()),
+        sections::PIECES => pieces_lawful(words[sections::PIECE_LENGTH].into(), word.into()),
         sections::SPACING => (10..=50).contains(&word),
         sections::WIDTH => (300..=2079).contains(&word),
         sections::DYNAMIC_KIND => (1..=3).contains(&word),
@@ -85,6 +86,16 @@ fn header_word_lawful(words: &[i32], place: usize) -> bool {
     }
 }
 
+/// The limits of h.
+pub fn piece_length_lawful(piece_length: i128) -> bool {
+    [1, 2, 5, 10, 25, 50].contains(&piece_length)
+}
+
+/// The limits of N, given h.
+pub fn pieces_lawful(piece_length: i128, pieces: i128) -> bool {
+    (1..=1000).contains(&pieces) && pieces * piece_length <= 1000
+}
+
 /// 3: the word count isn't exactly what the header calls for.
 fn wrong_word_count(words: &[i32], sections: &Sections) -> Option<usize> {
     let due = sections.words_due();
@@ -92,24 +103,30 @@ fn wrong_word_count(words: &[i32], sections: &Sections) -> Option<usize> {
 }
 
 /// 4: an ordinate of either line outside its limits.
-fn ordinate_outside(words: &[i32], sections: &Sections) -> Option<usize> {
-    let lawful_in_line = |&place: &usize| (-5000..=5000).contains(&words[place]);
-    let lawful_across = |&place: &usize| (-1000..=1000).contains(&words[place]);
-    let in_line = sections.line.clone().find(|place| !lawful_in_line(place));
-    in_line.or_else(|| {
-        sections
-            .transverse
-            .clone()
-            .find(|place| !lawful_across(place))
-    })
+fn ordinate_of_a_job_outside(words: &[i32], sections: &Sections) -> Option<usize> {
+    let in_section = |section: &Range<usize>, most: i32| {
+        let within = ordinate_outside(&words[section.clone()], most)?;
+        Some(section.start + within)
+    };
+    in_section(&sections.line, MOST_IN_LINE)
+        .or_else(|| in_section(&sections.transverse, MOST_ACROSS))
 }
 
-/// 5: a piece with one ordinate above 0 and one below.
-fn piece_of_two_signs(words: &[i32], sections: &Sections) -> Option<usize> {
-    sections.line.clone().step_by(WORDS_PER_PIECE).find(|&at| {
-        let (left, right) = (words[at], words[at + 1]);
+/// The first word of a line's section further from 0 than this.
+pub fn ordinate_outside(section: &[i32], most: i32) -> Option<usize> {
+    section
+        .iter()
+        .position(|word| !(-most..=most).contains(word))
+}
+
+/// 5: a piece with one ordinate above 0 and one below; the left ordinate's word
+/// in the line's section.
+pub fn piece_of_two_signs(line: &[i32]) -> Option<usize> {
+    let piece = line.chunks_exact(WORDS_PER_PIECE).position(|piece| {
+        let (left, right) = (piece[0], piece[1]);
         left.min(right) < 0 && left.max(right) > 0
-    })
+    });
+    piece.map(|number| WORDS_PER_PIECE * number)
 }
 
 /// 6: an effect, row or record word outside its limits.

@@ -6,7 +6,7 @@ use crate::account::{Account, Answer, Governing, Stand, State, Traffic, UNLOADED
 /// Four lines, or `refused NUMBER at PLACE`; each line ends in a newline.
 pub fn report(answer: &Answer) -> String {
     if answer.refusal != 0 {
-        return format!("refused {} at {}\n", answer.refusal, answer.place);
+        return refusal_line(answer.refusal, answer.place);
     }
     let account = &answer.account;
     [
@@ -20,6 +20,10 @@ pub fn report(answer: &Answer) -> String {
         state_line("ultimate", &account.ultimate),
     ]
     .concat()
+}
+
+pub fn refusal_line(number: u64, place: u64) -> String {
+    format!("refused {number} at {place}\n")
 }
 
 fn traffic_line(name: &str, greatest: &Traffic, least: &Traffic) -> String {

@@ -408,8 +408,8 @@ fn good_stands(job: &Job, question: Question) -> Vec<(i128, Side)> {
         };
         all().reduce(further).expect("there are stations")
     };
-    let left = |(station, side)| ordinate_at(job, station, side, 1);
-    let right = |(station, side)| ordinate_at(job, station + apart, side, 1);
+    let left = |(station, side)| ordinate_at(&job.pieces, station, side, 1);
+    let right = |(station, side)| ordinate_at(&job.pieces, station + apart, side, 1);
     vec![
         furthest(&|stand| left(stand) + right(stand)),
         furthest(&left),

@@ -1,4 +1,4 @@
-//! 01 "The host and the program": the program as a whole.
+//! 01 "The host and the program", 02 "Rating trucks": the program as a whole.
 
 use second::generator::{case, Edition};
 use std::fs::{self, File};
@@ -131,6 +131,62 @@ fn account_prints_the_page_of_the_account() {
     prints(&second(&["account"], Stdio::null()), "refused 1 at 0\n");
 }
 
+/// The truck line's first two pieces, those at its jump, and its last.
+#[test]
+fn truck_line_writes_its_section() {
+    let output = second(&["truck-line"], Stdio::null());
+    assert_eq!(output.status.code(), Some(0));
+    let words = second::words::words_of(&output.stdout);
+    assert_eq!((output.stdout.len(), words.len()), (400, 100));
+    assert_eq!(words[..4], [0, -20, -20, -40]);
+    assert_eq!(words[38..42], [-380, -400, 600, 580]);
+    assert_eq!(words[98..], [20, 0]);
+}
+
+/// Worked out in train_hand_worked.rs; the values are the same in both modes.
+#[test]
+fn train_prints_the_page_of_a_rating() {
+    let line = second(&["truck-line"], Stdio::null()).stdout;
+    let expected = "\
+greatest 136800 kN.U, turned, leftmost axle at station 20, side right
+least -81600 kN.U, as given, leftmost axle at station -4, side left
+difference 218400 kN.U
+";
+    for mode in ["1", "2"] {
+        let arguments = ["train", "2", mode, "60@0", "120@36", "120@48"];
+        let output = command_on(&arguments, &format!("truck-{mode}"), &line);
+        prints(&output, expected);
+    }
+}
+
+#[test]
+fn train_prints_a_refusal() {
+    let line = second(&["truck-line"], Stdio::null()).stdout;
+    let on_line = |arguments: &[&str], bytes: &[u8], expected: &str| {
+        let arguments = [&["train"], arguments].concat();
+        prints(&command_on(&arguments, "train-refused", bytes), expected);
+    };
+    on_line(&["3", "1", "60@0"], &line, "refused 2 at 0\n");
+    on_line(&["2", "3", "60@0"], &line, "refused 2 at 0\n");
+    on_line(&["2", "1"], &line, "refused 10 at 0\n");
+    on_line(&["2", "1", "60@0", "401@2"], &line, "refused 10 at 2\n");
+    // Half a piece over, half a piece short, nothing, and more than is read.
+    on_line(
+        &["2", "1", "60@0"],
+        &[&line[..], &[0; 4]].concat(),
+        "refused 2 at 0\n",
+    );
+    on_line(&["2", "1", "60@0"], &line[..396], "refused 2 at 0\n");
+    on_line(&["2", "1", "60@0"], &[], "refused 2 at 0\n");
+    on_line(&["1", "1", "60@0"], &[0; 16392], "refused 2 at 0\n");
+    // Word 3 is the second piece's right ordinate.
+    let mut spoiled = line.clone();
+    spoiled[12..16].copy_from_slice(&65541_i32.to_le_bytes());
+    on_line(&["2", "1", "60@0"], &spoiled, "refused 4 at 3\n");
+    spoiled[12..16].copy_from_slice(&5_i32.to_le_bytes());
+    on_line(&["2", "1", "60@0"], &spoiled, "refused 5 at 2\n");
+}
+
 #[test]
 fn beat_says_that_job_a_is_not_beaten() {
     let output = command_on(&["beat", "1", "300"], "beat", &job_a());
@@ -208,6 +264,16 @@ fn unknown_arguments_are_a_usage_error() {
         &["generate", "1", "18446744073709551615", "1", "."],
         &["beat", "1", "4294967296"],
         &["beat", "one", "1"],
+        &["train"],
+        &["train", "2"],
+        &["train", "two", "1", "60@0"],
+        &["train", "2", "-1", "60@0"],
+        &["train", "2", "1", "60"],
+        &["train", "2", "1", "60@"],
+        &["train", "2", "1", "60@-2"],
+        &["train", "2", "1", "4294967296@0"],
+        &["train", "2", "1", "60@0@2"],
+        &["truck-line", "2"],
     ] {
         let output = second(arguments, Stdio::null());
         assert_eq!(output.status.code(), Some(2), "{arguments:?}");

@@ -356,7 +356,7 @@ fn a_stand_off_the_line_is_found() {
         station: -1,
         side: Side::Left,
     };
-    assert_eq!(ordinate(&job, off_the_line), 0);
+    assert_eq!(ordinate(&job.pieces, off_the_line), 0);
     assert_eq!(pair_ordinates(&job, off_the_line), 100);
     let short = sham_account(&job, Sham::TriesStationsOnTheLineOnly);
     assert!(short.normal_greatest.value < account_of(&job).normal_greatest.value);

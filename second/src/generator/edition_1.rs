@@ -1,9 +1,8 @@
-//! Edition 1's stream of cases: which kind of case a seed gives, and the draws
-//! that several files of edition_1/ share.
+//! Edition 1's stream of cases: which kind of case a seed gives, and the patch
+//! buffer lent with it.
 
 mod chain_faults;
 mod damage;
-mod line;
 mod plain;
 mod sound;
 mod tables;
@@ -13,6 +12,7 @@ mod word_faults;
 pub use damage::damaged;
 pub use sound::sound_job;
 
+use super::draws::any_bytes;
 use super::Case;
 use crate::rng::Rng;
 use damage::damaged_case;
@@ -34,19 +34,6 @@ pub(super) fn case(seed: u64) -> Case {
         13..=17 => damaged_case(&mut rng),
         _ => plain_bytes(&mut rng),
     }
-}
-
-fn sign(rng: &mut Rng) -> i64 {
-    rng.pick(&[-1, 1])
-}
-
-fn first_last_or_any(rng: &mut Rng, length: usize) -> usize {
-    let any = rng.index(length);
-    rng.pick(&[0, length - 1, any])
-}
-
-fn any_bytes(rng: &mut Rng, length: usize) -> Vec<u8> {
-    (0..length).map(|_| rng.number() as u8).collect()
 }
 
 fn sufficient_patch(rng: &mut Rng, pieces: usize) -> Vec<u8> {

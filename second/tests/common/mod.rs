@@ -1,19 +1,50 @@
-//! Jobs shared by several tests, and what is due for any job.
+//! Jobs and trains shared by several tests, and what is due for any.
 
 #![allow(dead_code)] // Each test file uses some of these.
 
 pub mod definition;
+pub mod train_definition;
 
 use second::job::{
     Effect, Job, Piece, Record, Row, ALWAYS_PRESENT, LIVE_NONE, LIVE_NORMAL, LIVE_OVERLOAD,
     MAY_BE_LEFT_OUT, SERVICE, ULTIMATE,
 };
+use second::line::section_bytes;
+use second::train::{Axle, TrainCase};
 
 pub fn pieces(ordinates: &[(i64, i64)]) -> Vec<Piece> {
     ordinates
         .iter()
         .map(|&(left, right)| Piece { left, right })
         .collect()
+}
+
+/// A train, as loads and distances, on a line, with a report buffer of five
+/// bytes more than a report.
+pub fn train_case(h: u64, line: &[(i64, i64)], axles: &[(u32, u32)], mode: u64) -> TrainCase {
+    TrainCase {
+        h,
+        pieces: line.len() as u64,
+        line: section_bytes(&pieces(line)),
+        train: train(axles),
+        mode,
+        report: vec![0xC3; 77],
+    }
+}
+
+pub fn train(axles: &[(u32, u32)]) -> Vec<Axle> {
+    axles.iter().map(|&(load, at)| Axle { load, at }).collect()
+}
+
+/// The truck line with a truck of three axles.
+pub fn truck(mode: u64) -> TrainCase {
+    let line: Vec<(i64, i64)> = (0..50)
+        .map(|i| {
+            let from = if i < 20 { 0 } else { 1000 };
+            (from - 20 * i, from - 20 * (i + 1))
+        })
+        .collect();
+    train_case(2, &line, &[(60, 0), (120, 36), (120, 48)], mode)
 }
 
 /// Two lanes of 360 cm, a line that lies above 0 and then below, rows that

@@ -1,8 +1,8 @@
 //! Makes faults in a row's chain of records: an effect named twice, or a
 //! return to a record.
 
-use super::first_last_or_any;
 use super::tables::sound_factor;
+use crate::generator::draws::first_last_or_any;
 use crate::job::{Effect, Job, Record, MAY_BE_LEFT_OUT};
 use crate::rng::Rng;
 

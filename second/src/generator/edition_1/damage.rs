@@ -3,13 +3,14 @@
 
 use super::chain_faults::{name_an_effect_twice, return_to_a_record};
 use super::sound::sound_job;
+use super::sufficient_patch;
 use super::word_faults::{
     spoil_a_factor_word, spoil_a_header_word, spoil_an_ordinate, spoil_the_count,
 };
-use super::{first_last_or_any, sign, sufficient_patch};
+use crate::generator::line::give_a_piece_two_signs;
 use crate::generator::Case;
 use crate::rng::Rng;
-use crate::sections::{Sections, WORDS_PER_PIECE};
+use crate::sections::Sections;
 use crate::words::bytes_of;
 
 /// A sound job with one to four faults, each meant for a refusal. With several
@@ -39,10 +40,7 @@ pub fn damaged(rng: &mut Rng, faults: &[u64]) -> Case {
         spoil_a_factor_word(rng, &mut words, &sections);
     }
     if faults.contains(&5) {
-        let at = sections.line.start + WORDS_PER_PIECE * first_last_or_any(rng, pieces);
-        let side = sign(rng) as i32;
-        words[at] = side * rng.pick(&[1, 5000, 17]);
-        words[at + 1] = -side * rng.pick(&[1, 5000, 17]);
+        give_a_piece_two_signs(rng, &mut words[sections.line.clone()]);
     }
     if faults.contains(&4) {
         spoil_an_ordinate(rng, &mut words, &sections);

@@ -1,8 +1,8 @@
 //! Makes plain bytes: any bytes or words, alone, after a sound header, or in
 //! place of a few of a sound job's.
 
-use super::any_bytes;
 use super::sound::sound_job;
+use crate::generator::draws::any_bytes;
 use crate::generator::Case;
 use crate::rng::Rng;
 use crate::sections::HEADER_WORDS;

@@ -1,10 +1,10 @@
 //! Makes sound jobs: draws the header and puts the parts together, or sets
 //! every number at an end of its limits.
 
-use super::line::sound_line;
-use super::sign;
 use super::tables::{scramble_unused, sound_effects, sound_records, sound_rows};
 use super::transverse::sound_transverse;
+use crate::generator::draws::sign;
+use crate::generator::line::{sound_line, sound_piece_length, sound_pieces, LONGEST_LINE};
 use crate::job::{
     Effect, Job, Piece, Record, Row, ALWAYS_PRESENT, LIVE_NORMAL, LIVE_OVERLOAD, MAY_BE_LEFT_OUT,
     SERVICE, ULTIMATE,
@@ -12,23 +12,13 @@ use crate::job::{
 use crate::loads::AXLE_DISTANCE;
 use crate::rng::Rng;
 
-const PIECE_LENGTHS: [i64; 6] = [1, 2, 5, 10, 25, 50];
-pub(super) const LONGEST_LINE: i64 = 1000;
-
 /// A job that 01 names no refusal for, given a long enough patch buffer.
 pub fn sound_job(rng: &mut Rng) -> Job {
     if rng.one_in(32) {
         return extreme_job(rng);
     }
-    let piece_length = rng.pick(&PIECE_LENGTHS);
-    let most_pieces = LONGEST_LINE / piece_length;
-    let pieces = match rng.below(8) {
-        0 => 1,
-        1 => most_pieces,
-        2 | 3 => rng.between(1, most_pieces.min(4)),
-        4 => rng.between(1, most_pieces),
-        _ => rng.between(1, most_pieces.min(60)),
-    };
+    let piece_length = sound_piece_length(rng);
+    let pieces = sound_pieces(rng, piece_length);
     let spacing = match rng.below(4) {
         0 => 10,
         1 => 50,
@@ -62,7 +52,7 @@ pub fn sound_job(rng: &mut Rng) -> Job {
 /// A job with every number at an end of its limits, so that the values are the
 /// largest there are.
 fn extreme_job(rng: &mut Rng) -> Job {
-    let piece_length = rng.pick(&PIECE_LENGTHS);
+    let piece_length = sound_piece_length(rng);
     let spacing = rng.pick(&[10, 49, 50]);
     let width = rng.pick(&[1710, 2079]);
     let ordinate = 5000 * sign(rng);

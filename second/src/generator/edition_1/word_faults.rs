@@ -1,28 +1,12 @@
 //! Makes faults in a job's words: a word outside its limits, or words too few
 //! or too many.
 
-use super::first_last_or_any;
-use super::sound::LONGEST_LINE;
+use crate::generator::draws::{first_last_or_any, outside};
+use crate::generator::line::LONGEST_LINE;
 use crate::rng::Rng;
 use crate::sections::{
     self, Sections, HEADER_WORDS, WORDS_PER_EFFECT, WORDS_PER_RECORD, WORDS_PER_ROW,
 };
-
-/// A number just outside limits or far from them.
-fn outside(rng: &mut Rng, from: i32, to: i32) -> i32 {
-    let below = rng.between(i32::MIN.into(), i64::from(from) - 1) as i32;
-    let above = rng.between(i64::from(to) + 1, i32::MAX.into()) as i32;
-    rng.pick(&[
-        from - 1,
-        from - 1,
-        to + 1,
-        to + 1,
-        i32::MIN,
-        i32::MAX,
-        below,
-        above,
-    ])
-}
 
 pub(super) fn spoil_a_factor_word(rng: &mut Rng, words: &mut [i32], sections: &Sections) {
     let (effects, records) = (words[sections::EFFECTS], words[sections::RECORDS]);

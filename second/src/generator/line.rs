@@ -1,8 +1,29 @@
-//! Makes the longitudinal influence line of a sound job, in one of many shapes.
+//! Makes a sound longitudinal influence line, in one of many shapes, and a fault
+//! in one.
 
-use super::sign;
+use super::draws::{first_last_or_any, sign};
 use crate::job::Piece;
 use crate::rng::Rng;
+use crate::sections::WORDS_PER_PIECE;
+
+/// In decimetres.
+pub(super) const LONGEST_LINE: i64 = 1000;
+
+pub(super) fn sound_piece_length(rng: &mut Rng) -> i64 {
+    rng.pick(&[1, 2, 5, 10, 25, 50])
+}
+
+/// A number of pieces of this length, often a small one.
+pub(super) fn sound_pieces(rng: &mut Rng, piece_length: i64) -> i64 {
+    let most_pieces = LONGEST_LINE / piece_length;
+    match rng.below(8) {
+        0 => 1,
+        1 => most_pieces,
+        2 | 3 => rng.between(1, most_pieces.min(4)),
+        4 => rng.between(1, most_pieces),
+        _ => rng.between(1, most_pieces.min(60)),
+    }
+}
 
 #[derive(Clone, Copy, PartialEq, Eq)]
 enum LineShape {
@@ -46,7 +67,8 @@ const LINE_SHAPES: [LineShape; 13] = [
     LineShape::Zero,
 ];
 
-/// A line of a shape drawn at random; no piece has ordinates of two signs.
+/// A line of a shape drawn at random; no piece has ordinates of two signs. An
+/// overhang is at most as many pieces as there are between the axles, 1 or more.
 pub(super) fn sound_line(rng: &mut Rng, pieces: usize, between_axles: usize) -> Vec<Piece> {
     let most = rng.pick(&[1, 20, 500, 5000]);
     let sign_of_all = sign(rng);
@@ -143,4 +165,12 @@ fn joined_ordinates(
         }
     }
     ordinates
+}
+
+/// Gives a piece of a line's section one ordinate above 0 and one below.
+pub(super) fn give_a_piece_two_signs(rng: &mut Rng, line: &mut [i32]) {
+    let at = WORDS_PER_PIECE * first_last_or_any(rng, line.len() / WORDS_PER_PIECE);
+    let side = sign(rng) as i32;
+    line[at] = side * rng.pick(&[1, 5000, 17]);
+    line[at + 1] = -side * rng.pick(&[1, 5000, 17]);
 }

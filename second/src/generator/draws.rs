@@ -1,0 +1,32 @@
+//! Draws that all streams share.
+
+use crate::rng::Rng;
+
+pub(super) fn sign(rng: &mut Rng) -> i64 {
+    rng.pick(&[-1, 1])
+}
+
+pub(super) fn first_last_or_any(rng: &mut Rng, length: usize) -> usize {
+    let any = rng.index(length);
+    rng.pick(&[0, length - 1, any])
+}
+
+pub(super) fn any_bytes(rng: &mut Rng, length: usize) -> Vec<u8> {
+    (0..length).map(|_| rng.number() as u8).collect()
+}
+
+/// A number just outside limits or far from them.
+pub(super) fn outside(rng: &mut Rng, from: i32, to: i32) -> i32 {
+    let below = rng.between(i32::MIN.into(), i64::from(from) - 1) as i32;
+    let above = rng.between(i64::from(to) + 1, i32::MAX.into()) as i32;
+    rng.pick(&[
+        from - 1,
+        from - 1,
+        to + 1,
+        to + 1,
+        i32::MIN,
+        i32::MAX,
+        below,
+        above,
+    ])
+}
