@@ -1,15 +1,14 @@
 // The lowest place at fault in a part, item by item, by the limits of its row of the table. Places count from the part's first word.
 ghost use mathlib.Core.Path.{_≡_};
 ghost use mathlib.Core.Option.{some};
-ghost use mathlib.Core.List.{[], _∷_};
 ghost use Prim.Native.Nat.{_+_, _*_, _≤_, _<_};
 ghost use lib.IntN.{pos, negℤ};
 ghost use lib.ListN.{length, drop};
 ghost use Rattle.exact.specs.Bounds.{Within};
 ghost use Rattle.exact.specs.Choice.{if_then_else_, between};
 ghost use Rattle.words.specs.Words.{wordAt};
-ghost use Rattle.words.specs.Fields.{range, oneOf, given, both, misfitFrom, itemFrom, misfit};
-ghost use Rattle.model.specs.Format.{is, reach, dynamicFits, format, size, bytes, words};
+ghost use Rattle.words.specs.Fields.{admits, misfitFrom, itemFrom, misfit};
+ghost use Rattle.model.specs.Format.{is, pieceLength, pieceCount, dynamicFits, format, size, bytes, words};
 ghost use Rattle.model.specs.declared.Part.the-variants.{Head, Line, Transverse, Effects, Rows, Records};
 ghost use Rattle.sections.specs.Sized.{Counted};
 ghost use Rattle.limits.specs.Faults.{placeOf};
@@ -57,11 +56,9 @@ fn field(j: usize, admitted: bool, later: Fault) -> Fault
 }
 
 // h, in dm.
-fn length_fits(s: &[u8]) -> bool
-    requires { ⌜ bytes Head ≤ length (now s) ⌝ }
-    ensures { λ r. ⌜ r ≡ oneOf (1 ∷ 2 ∷ 5 ∷ 10 ∷ 25 ∷ 50 ∷ []) (itemFrom (now (s .entry)) 0 0) (wordAt (now (s .entry)) 1) ⌝ }
+pub fn length_fits(h: i64) -> bool
+    ensures { λ r. ⌜ r ≡ admits pieceLength h ⌝ }
 {
-    let h = words::word(s, 1);
     if h == 1 {
         return true;
     }
@@ -84,12 +81,12 @@ fn length_fits(s: &[u8]) -> bool
 }
 
 // N, and N times h at most 1000.
-fn pieces_fit(s: &[u8]) -> bool
-    requires { ⌜ bytes Head ≤ length (now s) ⌝ }
-    ensures { λ r. ⌜ r ≡ both (range 1 1000) (given 1 reach) (itemFrom (now (s .entry)) 0 0) (wordAt (now (s .entry)) 2) ⌝ }
+pub fn pieces_fit(h: i64, n: i64) -> bool
+    requires { ⌜ Within 2147483648 h ⌝ }
+    ensures { λ r. ⌜ r ≡ admits (pieceCount h) n ⌝ }
 {
-    if in_range(s, 2, 1, 1000) {
-        return words::word(s, 2) * words::word(s, 1) <= 1000;
+    if exact::is_between(1, 1000, n) {
+        return n * h <= 1000;
     }
     false
 }
@@ -129,8 +126,9 @@ pub fn header_misfit(s: &[u8], head: Header) -> Fault
     let kind = field(5, in_range(s, 5, 1, 3), counts);
     let width = field(4, in_range(s, 4, 300, 2079), kind);
     let spacing = field(3, in_range(s, 3, 10, 50), width);
-    let pieces = field(2, pieces_fit(s), spacing);
-    field(1, length_fits(s), pieces)
+    let h = words::word(s, 1);
+    let pieces = field(2, pieces_fit(h, words::word(s, 2)), spacing);
+    field(1, length_fits(h), pieces)
 }
 
 // A piece: left and right ordinate.

@@ -25,9 +25,20 @@ headerOf b = record {
 abbrev pub is : ℕ → ℤ → Bool
 is m x = between (pos m) (pos m) x
 
--- n pieces of this length reach at most 1000 dm
-abbrev pub reach : ℤ → Field
-reach h item n = leZ (n *ℤ h) (pos 1000)
+-- h, a piece's length in dm
+abbrev pub pieceLength : Field
+pieceLength = oneOf (1 ∷ 2 ∷ 5 ∷ 10 ∷ 25 ∷ 50 ∷ [])
+
+-- N pieces of this length: 1 to 1000, at most 1000 dm in all
+abbrev pub pieceCount : ℤ → Field
+pieceCount h = both (range 1 1000) (λ item n. leZ (n *ℤ h) (pos 1000))
+
+-- n pieces of a line
+abbrev pub lineLayout : ℕ → Layout
+lineLayout n = n of
+    within 5000  -- left ordinate, in U
+    ∷ within 5000  -- right ordinate
+    ∷ []
 
 -- kind 1 with 1000 to 1300; kind 2 with 0; kind 3 with 0 to 5000 (another kind is its own word's fault)
 abbrev pub dynamicFits : (kind value : ℤ) → Bool
@@ -42,8 +53,8 @@ spaces w g = (w + g - 1) / g
 abbrev pub format : Header → Part → Layout
 format head Head = 1 of
     free  -- edition: refusal 1 tests it
-    ∷ oneOf (1 ∷ 2 ∷ 5 ∷ 10 ∷ 25 ∷ 50 ∷ [])  -- h
-    ∷ both (range 1 1000) (given 1 reach)  -- N, with N times h at most 1000
+    ∷ pieceLength  -- h
+    ∷ given 1 pieceCount  -- N
     ∷ range 10 50  -- g
     ∷ range 300 2079  -- W
     ∷ range 1 3  -- dynamic kind
@@ -52,10 +63,7 @@ format head Head = 1 of
     ∷ range 1 32  -- R
     ∷ range 0 512  -- C
     ∷ []
-format head Line = head .pieces of
-    within 5000  -- left ordinate, in U
-    ∷ within 5000  -- right ordinate
-    ∷ []
+format head Line = lineLayout (head .pieces)
 format head Transverse = spaces (head .width) (head .spacing) + 1 of
     within 1000  -- ordinate in thousandths, the first at the left kerb
     ∷ []

@@ -40,7 +40,8 @@ pub or-none : (x y : Option ℕ) → orElse x y ≡ none → (x ≡ none) × (y 
 or-none none y e = (refl, e)
 or-none (some p) y e = absurd (Option·some-ne-none p e)
 
-answer-each : (i n : ℕ) (f : ℕ → Option ℕ) → firstAnswer i n f ≡ none → (k : ℕ) → i ≤ k → k < i + n → f k ≡ none
+-- where no answer is found, none is one
+pub answer-each : (i n : ℕ) (f : ℕ → Option ℕ) → firstAnswer i n f ≡ none → (k : ℕ) → i ≤ k → k < i + n → f k ≡ none
 answer-each i zero f e k l h = absurd (omega arith)
 answer-each i (suc n) f e k l h =
     let o = or-none (f i) (firstAnswer (suc i) n f) e in
@@ -49,7 +50,8 @@ answer-each i (suc n) f e k l h =
       | no m ↦ answer-each (suc i) n f (o .1) k (omega arith) (omega arith)
     ]
 
-answer-one : (i n : ℕ) (f : ℕ → Option ℕ) (r : ℕ) → firstAnswer i n f ≡ some r → (k : ℕ) × (k < i + n) × (f k ≡ some r)
+-- what is found is one's
+pub answer-one : (i n : ℕ) (f : ℕ → Option ℕ) (r : ℕ) → firstAnswer i n f ≡ some r → (k : ℕ) × (k < i + n) × (f k ≡ some r)
 answer-one i zero f r e = absurd (Option·none-ne-some r e)
 answer-one i (suc n) f r e = go (f i) refl e (answer-one (suc i) n f r)
   where

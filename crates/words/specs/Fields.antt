@@ -46,6 +46,10 @@ numbered limits item x = limits (item .number) item x
 abbrev pub both : Field → Field → Field
 both f g item x = f item x && g item x
 
+-- a field's limits for a number that is in no item
+abbrev pub admits : Field → ℤ → Bool
+admits field x = field (record { number = 0; word = λ j. pos 0 }) x
+
 -- a section: so many items of these fields
 pub record Layout : Type 0 where
   pub items : ℕ
