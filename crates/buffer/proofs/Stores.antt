@@ -1,11 +1,11 @@
 -- Bytes put one after the other are their string put at once.
 use mathlib.Core.Path.{_≡_, refl, ap, subst, _∙_}
-use mathlib.Core.List.{List, [], _∷_, _++_}
+use mathlib.Core.List.{List, [], _∷_, _++_, append-nil}
 use Prim.Native.Nat.{ℕ, suc, _+_, _≤_}
-use native.Mathlib.Nat.{add-zero}
+use native.Mathlib.Nat.{add-zero, le-refl}
 use native.Mathlib.Omega.{arith}
-use lib.ListN.{length, drop, set, length-append}
-use lib.Seq.{sets, sets-eq, length-sets}
+use lib.ListN.{length, drop, set, replicate, length-append, length-replicate}
+use lib.Seq.{sets, sets-eq, length-sets, drop-length}
 use Rattle.buffer.specs.Stored.{Stored}
 
 -- a run of stores, and one from where it ends
@@ -40,3 +40,13 @@ pub from-start : {s w bs : List ℕ} {r : ℕ} → Stored s 0 bs w r → r ≤ l
 from-start {s} {w} {bs} {r} h room =
     let e : 0 + length bs ≡ r = omega (arith, h .ends) in
     h .is ∙ sets-eq bs s 0 (omega (arith, h .ends)) ∙ ap (λ (k : ℕ). bs ++ drop k s) e
+
+-- zeros from a buffer's start; and for all its bytes
+pub zeros-from-start : {s w : List ℕ} {n r : ℕ} → Stored s 0 (replicate n 0) w r → n ≤ length s → w ≡ replicate n 0 ++ drop n s
+zeros-from-start {s} {w} {n} {r} h room =
+    let e : r ≡ n = omega (arith, h .ends, length-replicate {A = ℕ} n 0) in
+    subst (λ (k : ℕ). w ≡ replicate n 0 ++ drop k s) e (from-start h (omega arith))
+
+pub all-zeros : {s w : List ℕ} {r : ℕ} → Stored s 0 (replicate (length s) 0) w r → w ≡ replicate (length s) 0
+all-zeros {s} h =
+    zeros-from-start h (le-refl (length s)) ∙ ap (λ (l : List ℕ). replicate (length s) 0 ++ l) (drop-length s) ∙ append-nil (replicate (length s) 0)

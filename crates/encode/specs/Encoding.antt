@@ -1,15 +1,11 @@
 -- An account as bytes: 157 numbers of eight bytes each, one after the other, in the order of `accountNumbers`. Number k starts at byte 8 * k; include/hnho.h names each place.
 -- Sides: 0 left, 1 right. Entries: 0 unloaded, 1 HN raising, 2 HN lowering, 3 HO raising, 4 HO lowering. A lane set has a bit a lane, the effects left out a bit an effect, the first the lowest.
 -- A reserved number is 0.
-use mathlib.Core.Path.{_≡_}
 use Prim.Native.Nat.{ℕ, _*_, _<_, _^_}
 use mathlib.Core.Bool.{Bool, true, false}
 use mathlib.Core.List.{List, [], _∷_, _++_}
 use lib.IntN.{ℤ, pos}
-use lib.ListN.{getD, drop, replicate}
-use mir.Syntax.{w64}
-use mir.Val.{toZ}
-use Rattle.buffer.specs.Stored.{fromLittleEndian}
+use lib.ListN.{replicate}
 use Rattle.numbers.specs.NumberBytes.{numbersBytes}
 use Rattle.placements.specs.PlacementNumbers.{placementsNumbers, CentresFit}
 use Rattle.model.specs.Numbers.{sideNumber}
@@ -70,14 +66,6 @@ accountNumbers a =
 -- the bytes of an account
 abbrev pub accountBytes : Account → List ℕ
 accountBytes a = numbersBytes (accountNumbers a)
-
--- the number that the first eight bytes of a string stand for
-abbrev pub numberOf : List ℕ → ℤ
-numberOf s = toZ w64 (fromLittleEndian 8 s)
-
--- what a host reads in an account's bytes are the account's numbers
-abbrev pub ReadBack : (bytes : List ℕ) → Account → Type 0
-ReadBack bytes a = (k : ℕ) → k < accountCount → numberOf (drop (8 * k) bytes) ≡ getD (accountNumbers a) k (pos 0)
 
 -- a limit state's rows are read back as they are by a reader of signed numbers
 abbrev pub RowsFit : State → Type 0

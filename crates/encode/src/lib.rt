@@ -2,7 +2,6 @@
 use model::Account;
 use model::Governing;
 use model::Position;
-use model::Side;
 use model::State;
 use model::Traffic;
 ghost use mathlib.Core.Path.{_≡_};
@@ -10,26 +9,15 @@ ghost use mathlib.Core.List.{[], _∷_, _++_};
 ghost use Prim.Native.Nat.{_+_, _^_, _≤_, _<_};
 ghost use lib.IntN.{pos};
 ghost use lib.ListN.{length, drop, replicate};
-ghost use Rattle.model.specs.Numbers.{sideNumber};
 ghost use Rattle.model.specs.declared.State.the-variants.{Reported};
-ghost use Rattle.numbers.specs.NumberBytes.{Written};
-ghost use Rattle.encode.specs.Encoding.{accountSize, valueNumbers, positionNumbers, trafficNumbers, flagNumber, governingNumbers, limitNumbers, accountBytes, ReadBack, RowsFit, CountsFit};
+ghost use Rattle.numbers.specs.NumberBytes.{ReadBack, Written};
+ghost use Rattle.encode.specs.Encoding.{accountSize, valueNumbers, positionNumbers, trafficNumbers, flagNumber, governingNumbers, limitNumbers, accountNumbers, accountBytes, RowsFit, CountsFit};
 
 // The number of this layout.
 pub const LAYOUT: u32 = 1;
 
 // The bytes of an account.
 pub const SIZE: usize = 1256;
-
-// 0 left, 1 right.
-fn side_number(s: Side) -> u64
-    ensures { λ r. ⌜ (r ≡ sideNumber s) × (r < 2) ⌝ }
-{
-    match s {
-        Side::Left => 0,
-        Side::Right => 1,
-    }
-}
 
 // 1 for true.
 fn flag_number(b: bool) -> u64
@@ -56,7 +44,7 @@ fn put_position(out: &mut [u8], at: usize, p: Position) -> usize
 {
     let side = p.side;
     let end = numbers::put_signed(out, at, p.station);
-    numbers::put_count(out, end, side_number(side))
+    numbers::put_count(out, end, placements::side_number(side))
 }
 
 // A limit state's value, its row, the effects left out, whether the traffic is, and the reserved k.
@@ -135,7 +123,7 @@ pub fn write(out: &mut [u8], a: Account)
     requires { ⌜ accountSize ≤ length (now out) ⌝ }
     requires { ⌜ CountsFit a ⌝ }
     ensures { λ _. ⌜ now (out .exit) ≡ accountBytes a ++ drop accountSize (now (out .entry)) ⌝ }
-    ensures { λ _. ⌜ ReadBack (now (out .exit)) a ⌝ }
+    ensures { λ _. ⌜ ReadBack (now (out .exit)) (accountNumbers a) ⌝ }
 {
     let normal = a.normal;
     let overload = a.overload;

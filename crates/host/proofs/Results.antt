@@ -5,7 +5,7 @@ use mathlib.Core.List.{List, _++_}
 use Prim.Native.Nat.{ℕ, _/_, _%_, _≤_}
 use native.Mathlib.Omega.{arith}
 use lib.ListN.{length, drop, replicate}
-use Rattle.model.specs.Refusals.{verdict}
+use Rattle.model.specs.Refusals.{packed, verdict}
 use Rattle.model.specs.Answered.{Answered, refused, accepted, zeroAccount}
 use Rattle.model.specs.Determined.{Fixed, fixedOf}
 use Rattle.model.proofs.Determined.{determined}
@@ -13,7 +13,7 @@ use Rattle.model.proofs.RefusalNumbers.{number-small}
 use Rattle.model.specs.declared.Answer.{Answer}
 use Rattle.numbers.specs.NumberBytes.{numbersBytes}
 use Rattle.encode.specs.Encoding.{accountSize, accountBytes}
-use Rattle.host.specs.Hosted.{packed, Hosted, short, answered}
+use Rattle.host.specs.Hosted.{Hosted, short, answered}
 
 -- number and place come apart again, as the header takes them
 pub taken-apart : {b before after : List ℕ} {a : Answer} → Answered b before a after → (packed (a .refusal) (a .place) % 256 ≡ a .refusal) × (packed (a .refusal) (a .place) / 256 ≡ a .place)

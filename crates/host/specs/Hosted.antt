@@ -1,15 +1,13 @@
 -- What the entry for C hosts ensures: the answer of the kernel, its account as bytes, its refusal and place as one number.
-use Prim.Native.Nat.{ℕ, _+_, _*_, _≤_, _<_}
+use Prim.Native.Nat.{ℕ, _≤_, _<_}
 use mathlib.Core.Path.{_≡_}
 use mathlib.Core.List.{List, _++_}
 use lib.ListN.{length, drop, replicate}
+use Rattle.model.specs.Refusals.{packed}
 use Rattle.model.specs.Answered.{Answered}
 use Rattle.model.specs.declared.Answer.{Answer}
-use Rattle.encode.specs.Encoding.{accountSize, accountBytes, ReadBack}
-
--- a refusal's number and place as one number; 0 is acceptance
-abbrev pub packed : (number place : ℕ) → ℕ
-packed number place = number + 256 * place
+use Rattle.numbers.specs.NumberBytes.{ReadBack}
+use Rattle.encode.specs.Encoding.{accountSize, accountNumbers, accountBytes}
 
 -- the call's job, its patch and account buffers before, its result, and the buffers after
 pub data Hosted (job patch account : List ℕ) (result : ℕ) (patchAfter accountAfter : List ℕ) : Type 0 where
@@ -17,5 +15,5 @@ pub data Hosted (job patch account : List ℕ) (result : ℕ) (patchAfter accoun
   short : length account < accountSize → result ≡ packed 2 0 → patchAfter ≡ patch → accountAfter ≡ replicate (length account) 0 → Hosted job patch account result patchAfter accountAfter
   -- else an answer as the kernel gives it; its account's bytes in front, those past them as before; and the host reads the account's numbers
   answered : accountSize ≤ length account → (answer : Answer) → Answered job patch answer patchAfter → result ≡ packed (answer .refusal) (answer .place) →
-      accountAfter ≡ accountBytes (answer .account) ++ drop accountSize account → ReadBack accountAfter (answer .account) →
+      accountAfter ≡ accountBytes (answer .account) ++ drop accountSize account → ReadBack accountAfter (accountNumbers (answer .account)) →
       Hosted job patch account result patchAfter accountAfter

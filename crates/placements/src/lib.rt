@@ -3,15 +3,26 @@ use model::Entry;
 use model::Lane;
 use model::Placement;
 use model::Sense;
+use model::Side;
 use model::Traffic;
 ghost use mathlib.Core.Path.{_≡_};
 ghost use Prim.Native.Nat.{ℕ, _+_, _^_, _≤_, _<_};
 ghost use lib.ListN.{length};
-ghost use Rattle.model.specs.Numbers.{entryNumber};
+ghost use Rattle.model.specs.Numbers.{sideNumber, entryNumber};
 ghost use Rattle.model.specs.Answered.{laneAt};
 ghost use Rattle.model.specs.declared.Entry.the-variants.{Hn, Ho};
 ghost use Rattle.numbers.specs.NumberBytes.{Written};
 ghost use Rattle.placements.specs.PlacementNumbers.{laneNumbers, lanesNumbers, placementNumbers, placementsNumbers, CentresFit};
+
+// 0 left, 1 right.
+pub fn side_number(s: Side) -> u64
+    ensures { λ r. ⌜ (r ≡ sideNumber s) × (r < 2) ⌝ }
+{
+    match s {
+        Side::Left => 0,
+        Side::Right => 1,
+    }
+}
 
 // 1 HN raising, 2 HN lowering.
 fn hn_number(s: Sense) -> u64

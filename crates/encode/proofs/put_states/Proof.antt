@@ -1,6 +1,6 @@
 use native.Mathlib.Omega.{arith}
 use Rattle.numbers.proofs.Stores.{and-then}
-use Rattle.encode.proofs.Reading.{limit-length}
+use Rattle.encode.proofs.Sizes.{limit-length}
 use borrow.Author.Needs.{needs}
 use Rattle.encode.proofs.put_states.Statement.{statement}
 use Rattle.encode.proofs.put_states.Tie as tie

@@ -1,12 +1,9 @@
-use mathlib.Core.Path.{_≡_, sym, subst}
-use mathlib.Core.List.{List, _++_}
-use Prim.Native.Nat.{ℕ}
 use native.Mathlib.Omega.{arith}
-use lib.ListN.{drop, length-append}
-use Rattle.encode.specs.Encoding.{accountSize, limitNumbers, accountBytes, ReadBack}
+use lib.ListN.{length-append}
+use Rattle.encode.specs.Encoding.{limitNumbers}
 use Rattle.numbers.proofs.Stores.{and-then}
-use Rattle.buffer.proofs.Stores.{from-start}
-use Rattle.encode.proofs.Reading.{limit-length, account-count, account-read}
+use Rattle.numbers.proofs.Reading.{in-front}
+use Rattle.encode.proofs.Sizes.{limit-length, account-count}
 use borrow.Author.Needs.{needs}
 use Rattle.encode.proofs.write.Statement.{statement}
 use Rattle.encode.proofs.write.Tie as tie
@@ -30,12 +27,9 @@ returns c =
     let p2 = p3 .before .before .before .before in
     let p1 = p2 .before .before .before .before in
     let s = p1 .before .before .before .before .before in
-    let a = s .args .a in
     let placements = and-then (and-then (p1 .put-traffic .ensures) (p2 .put-placements .ensures)) (p3 .put-placements2 .ensures) in
     let whole = and-then (and-then placements (p4 .put-states .ensures)) (p5 .put-counts .ensures) in
-    let size : p5 .put-counts .result ≡ accountSize = omega (arith, whole .ends, account-count a) in
-    let is = subst (λ (n : ℕ). p5 .put-counts .last .0 ≡ accountBytes a ++ drop n (s .args .out .now)) size (from-start (whole .bytes) (omega (arith, size, s .pre .0))) in
-    (is, subst (λ (l : List ℕ). ReadBack l a) (sym is) (account-read a _ (whole .fit)))
+    in-front whole (omega (arith, account-count (s .args .a))) (s .pre .0)
 
 pub write-spec : {M : Type 1} → statement M
 write-spec =

@@ -2,8 +2,8 @@ use mathlib.Core.Path.{sym, ap}
 use native.Mathlib.Omega.{arith}
 use Rattle.model.specs.Numbers.{sideNumber}
 use borrow.Author.Needs.{needs}
-use Rattle.encode.proofs.side_number.Statement.{statement}
-use Rattle.encode.proofs.side_number.Tie as tie
+use Rattle.placements.proofs.side_number.Statement.{statement}
+use Rattle.placements.proofs.side_number.Tie as tie
 
 returns : tie.Need-returns
 returns c = (sym (ap sideNumber (c .enum-told .given .1)), omega arith)
