@@ -24,7 +24,7 @@ use Rattle.centres.specs.Spans.{CentreRight, SpanRight, noSpan, AcrossRi
 use Rattle.centres.specs.Candidates.{ordinateAt, BestBefore}
 use Rattle.centres.specs.declared.Centre.{Centre}
 use Rattle.centres.specs.declared.Span.{Span}
-use Rattle.centres.proofs.Ordinates.{div-mono}
+use Rattle.exact.proofs.Rounding.{div-mono}
 
 -- what a lane's limits ask of the machine, and of the section
 pub record Limits (s : List ℕ) (w n g i : ℕ) : Type 0 where

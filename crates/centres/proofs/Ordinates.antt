@@ -2,13 +2,14 @@
 use mathlib.Core.Path.{_≡_, ap₂, subst}
 use mathlib.Core.List.{List}
 use Prim.Native.Nat.{ℕ, _+_, _-_, _*_, _/_, _%_, _≤_, _<_}
-use native.Mathlib.Nat.{mod-lt, le-refl, le-trans, le-of-lt, le-div-iff-mul-le, div-lt-iff-lt-mul, div-mul-le-self}
+use native.Mathlib.Nat.{mod-lt, le-refl, le-of-lt, le-div-iff-mul-le, div-lt-iff-lt-mul}
 use native.Mathlib.Numerals.{add-one}
 use native.Mathlib.Omega.{arith}
 use lib.IntN.{ℤ, pos, _+ℤ_, _-ℤ_, _*ℤ_}
 use Rattle.exact.specs.Bounds.{Within}
 use Rattle.exact.proofs.Bounds.{within-le, within-pos, within-add, within-mul}
 use Rattle.exact.proofs.Bridge.{subbed, ℕ→≡}
+use Rattle.exact.proofs.Rounding.{div-mono}
 use Rattle.words.specs.Words.{wordAt}
 use Rattle.magnitudes.specs.Magnitudes.{transverseMost}
 use Rattle.centres.specs.Transverse.{OrdinatesTo}
@@ -30,9 +31,6 @@ ordinate-near s d centre p l o =
     (within-le
     (within-add (within-mul (within-pos (d - centre % d) (le-refl _)) (o .near (centre / d) (omega arith))) (within-mul (within-pos (centre % d) (le-refl _)) (o .near (centre / d + 1) (omega arith))))
     (omega arith))
-
-pub div-mono : {a b d : ℕ} → 0 < d → a ≤ b → a / d ≤ b / d
-div-mono {a} {b} {d} p l = le-div-iff-mul-le p .1 (le-trans (div-mul-le-self a d) l)
 
 -- the ordinates for a centre do for one to its left
 pub ordinates-left : (s : List ℕ) (d at hi : ℕ) → 0 < d → at ≤ hi → OrdinatesTo s (hi / d + 1) → OrdinatesTo s (at / d + 1)

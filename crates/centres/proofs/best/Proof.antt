@@ -7,7 +7,8 @@ use mir.Syntax.{w32, w64}
 use Rattle.exact.proofs.Held.{got, cast, cast! }
 use Rattle.centres.specs.Transverse.{OrdinatesTo}
 use Rattle.centres.specs.Candidates.{BestBefore}
-use Rattle.centres.proofs.Ordinates.{ordinate-near, ordinates-left, ordinate-between, div-mono}
+use Rattle.centres.proofs.Ordinates.{ordinate-near, ordinates-left, ordinate-between}
+use Rattle.exact.proofs.Rounding.{div-mono}
 use Rattle.centres.proofs.Candidates.{limits-tried, next-tried}
 use Rattle.centres.proofs.best.Statement.{statement}
 use Rattle.centres.proofs.best.Tie as tie
