@@ -32,6 +32,14 @@ hnLineMost = lineMost HN
 abbrev pub hoLineMost : ℕ
 hoLineMost = lineMost HO
 
+-- an axle of a train in kN·U: 400 kN on an ordinate
+abbrev pub axleMost : ℕ
+axleMost = 400 * ordinateMost
+
+-- a train: 12 axles
+abbrev pub trainMost : ℕ
+trainMost = 12 * axleMost
+
 -- ---- lanes
 
 -- a transverse ordinate times unit and g: 1000 thousandths, 5 lanes, 50 cm

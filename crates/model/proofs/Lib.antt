@@ -7,12 +7,15 @@ pub mod Counts
 pub mod Verdict
 pub mod HeaderLimits
 pub mod LineLimits
+pub mod TrainLimits
 pub mod TableLimits
 pub mod RefusalNumbers
 pub mod Accepted
 pub mod Lanes
 pub mod Signs
+pub mod Axles
 pub mod Pair
+pub mod Trains
 pub mod Uniform
 pub mod Centre
 pub mod Sets

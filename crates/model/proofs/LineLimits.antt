@@ -13,9 +13,9 @@ use Rattle.exact.specs.Bounds.{Within}
 use Rattle.exact.proofs.Order.{lt→le}
 use Rattle.exact.proofs.Tests.{ltZ-true, ltZ-false}
 use Rattle.words.specs.Words.{wordAt}
-use Rattle.model.specs.Format.{headerOf, format, words, sectionOf}
+use Rattle.model.specs.Format.{headerOf, lineLayout, format, size, words, sectionOf}
 use Rattle.model.specs.Job.{Piece, InfluenceLine}
-use Rattle.model.specs.Decode.{decode}
+use Rattle.model.specs.Decode.{influenceLine, decode}
 use Rattle.words.specs.Fields.{misfit}
 use Rattle.model.specs.Refusals.{crosses, signs, fault4, fault5}
 use Rattle.model.specs.declared.Part.the-variants.{Line, Transverse}
@@ -23,6 +23,15 @@ use Rattle.model.proofs.Counts.{between-within}
 use Rattle.words.proofs.Fits.{or-none, moved-none, fits, first-fits}
 
 -- ---- 4: ordinates
+-- a line section without a place at fault has ordinates from -5000 to 5000
+pub ordinates-within : (s : List ℕ) (n : ℕ) → misfit (lineLayout n) s ≡ none → (k : ℕ) → k < size Line * n → Within 5000 (wordAt s k)
+ordinates-within s n clear k h =
+    let i = k / 2 in
+    elim (decLe (k % 2) 0) [
+      | yes z ↦ let e : 2 * i ≡ k = omega arith in rw e at (between-within 5000 (wordAt s (2 * i)) (first-fits (lineLayout n) s clear i (omega arith) (omega arith)))
+      | no z ↦ let e : 2 * i + 1 ≡ k = omega arith in rw e at (between-within 5000 (wordAt s (2 * i + 1)) (fits (lineLayout n) s clear i 1 (omega arith) (omega arith)))
+    ]
+
 module _ (b : List ℕ) (clear : fault4 b ≡ none) where
   -- neither line has a place at fault
   ordinates : (misfit (format (headerOf b) Line) (sectionOf b Line) ≡ none) × (misfit (format (headerOf b) Transverse) (sectionOf b Transverse) ≡ none)
@@ -31,13 +40,7 @@ module _ (b : List ℕ) (clear : fault4 b ≡ none) where
 
   -- its ordinates are from -5000 to 5000
   pub line-within : (k : ℕ) → k < words (headerOf b) Line → Within 5000 (wordAt (sectionOf b Line) k)
-  line-within k h =
-      let s = sectionOf b Line in
-      let i = k / 2 in
-      elim (decLe (k % 2) 0) [
-        | yes z ↦ let e : 2 * i ≡ k = omega arith in rw e at (between-within 5000 (wordAt s (2 * i)) (first-fits (format (headerOf b) Line) s (ordinates .0) i (omega arith) (omega arith)))
-        | no z ↦ let e : 2 * i + 1 ≡ k = omega arith in rw e at (between-within 5000 (wordAt s (2 * i + 1)) (fits (format (headerOf b) Line) s (ordinates .0) i 1 (omega arith) (omega arith)))
-      ]
+  line-within = ordinates-within (sectionOf b Line) (headerOf b .pieces) (ordinates .0)
 
   -- and its transverse ordinates from -1000 to 1000 thousandths
   pub transverse-within : (k : ℕ) → k < words (headerOf b) Transverse → Within 1000 (wordAt (sectionOf b Transverse) k)
@@ -66,7 +69,11 @@ not-crossing x y = go (ltZ (pos 0) x) (ltZ y (pos 0)) (ltZ x (pos 0)) (ltZ (pos 
     go false b false true ea eb ec ed e = above (ltZ-false x (pos 0) ec) (lt→le (ltZ-true (pos 0) y ed))
     go false b false false ea eb ec ed e = below (ltZ-false (pos 0) x ea) (ltZ-false (pos 0) y ed)
 
--- a job without fault 5 has pieces of one sign
+-- a section without a crossing piece is of a line whose pieces have one sign
+pub section-signed : (s : List ℕ) (h n : ℕ) → misfit (signs n) s ≡ none → OneSigned (influenceLine s h n)
+section-signed s h n e i l = not-crossing _ _ (not-true _ (first-fits (signs n) s e i l (omega arith)))
+
+-- so has a job without fault 5
 pub one-signed : (b : List ℕ) → fault5 b ≡ none → OneSigned (decode b .line)
 unfolding decode fault5
-one-signed b e i h = not-crossing _ _ (not-true _ (first-fits (signs (headerOf b .pieces)) (sectionOf b Line) (moved-none _ _ e) i h (omega arith)))
+one-signed b e = section-signed (sectionOf b Line) (headerOf b .h) (headerOf b .pieces) (moved-none _ _ e)

@@ -19,7 +19,8 @@ refuse-none : (n : ℕ) (f : Option ℕ) (higher : Option Refusal) → refuse n 
 refuse-none n none higher e = (refl, e)
 refuse-none n (some p) higher e = absurd (Option·some-ne-none _ e)
 
-unless-none : (t : Bool) (place : ℕ) → unless t place ≡ none → t ≡ true
+-- where nothing is found, the test holds
+pub unless-none : (t : Bool) (place : ℕ) → unless t place ≡ none → t ≡ true
 unless-none true place e = refl
 unless-none false place e = absurd (Option·some-ne-none _ e)
 
@@ -28,7 +29,7 @@ abbrev pub noTest : Test
 noTest = 0 finds none
 
 -- where no test refuses, none finds a place
-all-clear : (tests : List Test) → firstRefusal tests ≡ none → (k : ℕ) → getD tests k noTest .found ≡ none
+pub all-clear : (tests : List Test) → firstRefusal tests ≡ none → (k : ℕ) → getD tests k noTest .found ≡ none
 all-clear [] e k = refl
 all-clear (t ∷ rest) e zero = refuse-none (t .number) (t .found) _ e .0
 all-clear (t ∷ rest) e (suc k) = all-clear rest (refuse-none (t .number) (t .found) _ e .1) k

@@ -8,6 +8,7 @@ pub mod Line
 pub mod Lanes
 pub mod Traffic
 pub mod Rows
+pub mod Trains
 pub mod Arrangements
 pub mod Numbers
 pub mod Answered
