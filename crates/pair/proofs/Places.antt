@@ -34,13 +34,13 @@ use Rattle.pair.specs.declared.Ranks.{Ranks}
 -- ---- one axle and the pair, at a station counted as the code counts it
 module _ (line : InfluenceLine) where
   -- on the line: the left ordinate of the piece that starts at z, the right one of the piece that ends there
-  right-on : (z : ℕ) → z < line .pieces → ordinate line 1 (pos z) Right ≡ line .piece z .left
+  pub right-on : (z : ℕ) → z < line .pieces → ordinate line 1 (pos z) Right ≡ line .piece z .left
   unfolding ordinate along
   right-on z h =
       rw (div-one z, mod-one z, lt-ltb z (line .pieces) h)
       (solve 2 (λ a b. (lit 1 ⊝ lit 0) ⊗ a ⊕ lit 0 ⊗ b ≐ a) tt (line .piece z .left) (line .piece z .right))
 
-  left-on : (z : ℕ) → ¬ (z ≡ 0) → z - 1 < line .pieces → ordinate line 1 (pos z) Left ≡ line .piece (z - 1) .right
+  pub left-on : (z : ℕ) → ¬ (z ≡ 0) → z - 1 < line .pieces → ordinate line 1 (pos z) Left ≡ line .piece (z - 1) .right
   unfolding ordinate along
   left-on zero f h = absurd (f refl)
   left-on (suc y) f h =

@@ -151,7 +151,7 @@ pub fn best_ranks(line: &[u8], h: usize, n: usize) -> Ranks
 }
 
 // The side of a place.
-fn side_of(place: usize) -> Side
+pub fn side_of(place: usize) -> Side
     ensures { λ r. ⌜ r ≡ sideAt place ⌝ }
 {
     if place % 2 == 0 {

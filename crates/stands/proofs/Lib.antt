@@ -1,0 +1,4 @@
+pub mod Counting
+pub mod EndOrdinates
+pub mod Stations
+pub mod Worst

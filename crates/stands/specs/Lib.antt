@@ -1,0 +1,2 @@
+pub mod TrainFits
+pub mod Runs
