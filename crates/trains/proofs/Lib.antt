@@ -1,0 +1,4 @@
+mod Gathering
+mod Verdicts
+mod Accepted
+pub mod Results
