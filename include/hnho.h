@@ -2,10 +2,11 @@
  *
  * One call takes a job (an influence line, a transverse line, a dynamic factor and a table of load factors, as 32-bit words)
  * to its account (the worst traffic values with a placement that gives each, and the row that governs each limit state),
- * or refuses it with a number and a word place. Link with libhnho.a. docs/HOST.md has the five-minute path.
+ * or refuses it with a number and a word place. Another rates a train of axles on an influence line alone. Link with libhnho.a.
+ * docs/HOST.md has the five-minute path.
  *
  * The kernel keeps no state, allocates nothing and does no input or output: any number of threads may call it at once,
- * each with its own patch and account buffers.
+ * each with its own patch, account and report buffers.
  */
 #ifndef HNHO_H
 #define HNHO_H
@@ -26,6 +27,9 @@ extern "C" {
 #define HNHO_LANES 10  /* lanes of a placement */
 #define HNHO_MOST_PATCH_BYTES 1000  /* a patch buffer that is long enough for every job: N is at most 1000 */
 #define HNHO_MOST_JOB_BYTES 15660  /* the longest job that can be accepted: 3915 words */
+#define HNHO_RATING_BYTES 72  /* a train's report: HNHO_RATING_NUMBERS numbers of 8 bytes */
+#define HNHO_RATING_NUMBERS 9
+#define HNHO_MOST_AXLES 12  /* of a train */
 
 /* The number of the layout in which the archive writes an account. */
 uint32_t hnho_layout(void);
@@ -50,20 +54,61 @@ uint32_t hnho_layout(void);
  */
 uint64_t hnho_solve(const uint8_t *job, size_t job_bytes, uint8_t *patch, size_t patch_bytes, uint8_t *account, size_t account_bytes);
 
+/* An axle of a train. */
+struct hnho_axle {
+  uint32_t load;  /* kN: 1 to 400 */
+  uint32_t at;    /* dm from the first axle: 0 to 500, a multiple of h, 0 for the first axle, never below the axle before */
+};
+
+/* Which axles of a train count. */
+enum hnho_train_mode {
+  HNHO_ALL_AXLES = 1,
+  HNHO_WITHOUT_RELIEF = 2  /* not one that relieves: greatest counts no ordinate below 0, least none above, axle by axle */
+};
+
+/* Rates a train: its greatest and its least effect on a line, each with a stand that gives it.
+ *
+ * h, pieces: piece length in dm and N, the number of pieces, with the limits of words 1 and 2 of a job.
+ *
+ * line, line_bytes: the line's section as a job has it, 8 * N bytes: a left and a right ordinate a piece, -5000 to 5000, as
+ * signed 32-bit words, little-endian. Only read.
+ *
+ * train, axles: the axles in order, 1 to HNHO_MOST_AXLES of them. Only read.
+ *
+ * mode: of enum hnho_train_mode.
+ *
+ * report, report_bytes: HNHO_RATING_BYTES or more. The first HNHO_RATING_BYTES bytes get the rating, zeros on a refusal; bytes
+ * past them keep their contents. A shorter buffer is refused with 2 at place 0, and all of its bytes are set to 0.
+ *
+ * What the rating promises: for every whole k from 1 up, wherever the leftmost axle stands by k-ths of a piece, with the train
+ * partly or wholly off the line too, on either side (one for all axles), as given or turned end for end, the loads times their
+ * ordinates add up to no more than greatest and no less than least; and the stands in the rating give exactly these. Nothing is
+ * rounded. Of equally good stands one is shown.
+ *
+ * Result: 0 for a rating, else 256 times the place plus the refusal's number: 2 at place 0 (h, N, the section's or the
+ * report's length, the mode), 4 or 5 (at a word of the section, counted from 0) or 10 (at an axle).
+ *
+ * The three buffers must not overlap. A null pointer is fine with length 0, and with no other length. Every line, every train and
+ * every number is answered, whatever it is.
+ */
+uint64_t hnho_train(size_t h, size_t pieces, const uint8_t *line, size_t line_bytes, const struct hnho_axle *train, size_t axles,
+                    size_t mode, uint8_t *report, size_t report_bytes);
+
 /* Refusals, each with its place: a word of the job, counted from 0, where nothing else is said. The lowest number that applies is
  * given, with its lowest place. hnho_refusal_text says what is wrong and who mends it.
  */
 enum hnho_refusal_number {
   HNHO_ACCEPTED = 0,
   HNHO_NOT_A_JOB = 1,       /* 0 */
-  HNHO_HEADER_LIMIT = 2,    /* the word, 1 to 9 (N times h over 1000 counts at 2); 0 for a short account buffer */
+  HNHO_HEADER_LIMIT = 2,    /* the word, 1 to 9 (N times h over 1000 counts at 2); 0 for a short buffer, and in hnho_train */
   HNHO_WORD_COUNT = 3,      /* the number of words due */
   HNHO_ORDINATE_LIMIT = 4,  /* the word */
   HNHO_PIECE_CROSSES = 5,   /* the piece's left ordinate */
   HNHO_TABLE_LIMIT = 6,     /* the word */
   HNHO_CHAIN_RETURNS = 7,   /* the row's first word */
   HNHO_EFFECT_TWICE = 8,    /* the row's first word */
-  HNHO_PATCH_SHORT = 9      /* N */
+  HNHO_PATCH_SHORT = 9,     /* N */
+  HNHO_TRAIN_LIMIT = 10     /* the first axle at fault, counted from 1; 0 for the number of axles */
 };
 
 /* The words of a job, by place.
@@ -105,8 +150,11 @@ enum hnho_word_place {
 /* Bytes of the patch buffer. */
 enum hnho_patch_byte { HNHO_PATCH_NEITHER = 0, HNHO_PATCH_RAISING = 1, HNHO_PATCH_LOWERING = 2 };
 
-/* The ordinate that both axles of a pair take at their stations: just left or just right of them. */
+/* The ordinate that both axles of a pair, or all axles of a train, take at their stations: just left or just right of them. */
 enum hnho_side { HNHO_SIDE_LEFT = 0, HNHO_SIDE_RIGHT = 1 };
+
+/* The way round of a train: the first axle leftmost, or the last, with distances counted from it. */
+enum hnho_way { HNHO_AS_GIVEN = 0, HNHO_TURNED = 1 };
 
 /* What a lane carries. */
 enum hnho_lane_entry { HNHO_UNLOADED = 0, HNHO_HN_RAISING = 1, HNHO_HN_LOWERING = 2, HNHO_HO_RAISING = 3, HNHO_HO_LOWERING = 4 };
@@ -172,6 +220,25 @@ struct hnho_account {
   int64_t records_walked;  /* reserved, 0 */
 };
 
+/* Where a train stands. */
+struct hnho_train_stand {
+  int64_t way;      /* of enum hnho_way */
+  int64_t side;     /* of enum hnho_side */
+  int64_t station;  /* of the leftmost axle, in pieces from the line's left end: from minus the train's length in pieces to N */
+};
+
+/* A rating, as hnho_read_rating takes it out of its bytes. All 0 on a refusal. */
+struct hnho_rating {
+  /* In kN.U, exact. */
+  int64_t greatest;
+  int64_t least;
+  int64_t difference;  /* greatest less least */
+
+  /* A stand that gives each. */
+  struct hnho_train_stand greatest_stand;
+  struct hnho_train_stand least_stand;
+};
+
 /* Places in an account's bytes: number k is signed, of 64 bits, little-endian, and starts at byte 8 * k. The account has places of
  * its own; a number within a part is at the part's place plus its place in the part. So the row of the greatest service value
  * is number HNHO_SERVICE + HNHO_GREATEST + HNHO_ROW.
@@ -225,6 +292,22 @@ enum hnho_account_place {
   HNHO_RECORDS_WALKED = HNHO_SECOND_LANES + 1
 };
 
+/* Places in a rating's bytes, in the same way. */
+enum hnho_rating_place {
+  /* In a stand. */
+  HNHO_STAND_WAY = 0,
+  HNHO_STAND_SIDE = 1,
+  HNHO_STAND_STATION = 2,
+  HNHO_STAND_NUMBERS = 3,
+
+  /* In the rating. */
+  HNHO_RATING_GREATEST = 0,
+  HNHO_RATING_LEAST = 1,
+  HNHO_RATING_DIFFERENCE = 2,
+  HNHO_RATING_GREATEST_STAND = 3,
+  HNHO_RATING_LEAST_STAND = HNHO_RATING_GREATEST_STAND + HNHO_STAND_NUMBERS
+};
+
 /* A result's refusal number, 0 for acceptance. */
 static inline int hnho_refusal(uint64_t result) {
   return (int)(result & 255u);
@@ -235,7 +318,7 @@ static inline uint64_t hnho_place(uint64_t result) {
   return result >> 8;
 }
 
-/* What is wrong with a job or its buffers and who mends it, by the refusal's number; a line without its newline. */
+/* What is wrong with a job, a train or their buffers and who mends it, by the refusal's number; a line without its newline. */
 static inline const char *hnho_refusal_text(int number) {
   switch (number) {
   case HNHO_ACCEPTED:
@@ -243,7 +326,8 @@ static inline const char *hnho_refusal_text(int number) {
   case HNHO_NOT_A_JOB:
     return "under 10 words, a byte count that 4 does not divide, or word 0 is not 1; mended by whoever packs the job";
   case HNHO_HEADER_LIMIT:
-    return "a header word outside its limits; mended by whoever packs the job (at place 0 the account buffer is short; mended by the host)";
+    return "a header word outside its limits; mended by whoever packs the job (at place 0 a short account or report buffer, or "
+           "h, N, the section's length or the mode of a train's call outside its limits; mended by the host)";
   case HNHO_WORD_COUNT:
     return "not the number of words that the header calls for; mended by whoever packs the job";
   case HNHO_ORDINATE_LIMIT:
@@ -258,17 +342,19 @@ static inline const char *hnho_refusal_text(int number) {
     return "a row's chain names an effect twice; mended by whoever keeps the factors";
   case HNHO_PATCH_SHORT:
     return "the patch buffer has fewer bytes than the line has pieces; mended by the host";
+  case HNHO_TRAIN_LIMIT:
+    return "the number of axles, or an axle's load or distance, outside its limits; mended by whoever gives the train";
   default:
     return "no refusal of this kernel";
   }
 }
 
-/* Number k of an account, on any machine. */
-static inline int64_t hnho_number(const uint8_t *account, size_t k) {
+/* Number k of an account or a rating, on any machine. */
+static inline int64_t hnho_number(const uint8_t *numbers, size_t k) {
   uint64_t bits = 0;
   size_t i;
   for (i = 8; i > 0; i--)
-    bits = bits << 8 | account[8 * k + i - 1];
+    bits = bits << 8 | numbers[8 * k + i - 1];
   return bits >> 63 ? -(int64_t)~bits - 1 : (int64_t)bits;
 }
 
@@ -322,12 +408,27 @@ static inline void hnho_read_account(const uint8_t *bytes, struct hnho_account *
   account->records_walked = hnho_number(bytes, HNHO_RECORDS_WALKED);
 }
 
-/* Writes a word of a job, on any machine. */
-static inline void hnho_put_word(uint8_t *job, size_t place, int32_t word) {
+static inline void hnho_read_train_stand(const uint8_t *bytes, size_t place, struct hnho_train_stand *stand) {
+  stand->way = hnho_number(bytes, place + HNHO_STAND_WAY);
+  stand->side = hnho_number(bytes, place + HNHO_STAND_SIDE);
+  stand->station = hnho_number(bytes, place + HNHO_STAND_STATION);
+}
+
+/* Takes a rating out of the HNHO_RATING_BYTES bytes that hnho_train wrote, on any machine. */
+static inline void hnho_read_rating(const uint8_t *bytes, struct hnho_rating *rating) {
+  rating->greatest = hnho_number(bytes, HNHO_RATING_GREATEST);
+  rating->least = hnho_number(bytes, HNHO_RATING_LEAST);
+  rating->difference = hnho_number(bytes, HNHO_RATING_DIFFERENCE);
+  hnho_read_train_stand(bytes, HNHO_RATING_GREATEST_STAND, &rating->greatest_stand);
+  hnho_read_train_stand(bytes, HNHO_RATING_LEAST_STAND, &rating->least_stand);
+}
+
+/* Writes a word of a job or of a line's section, on any machine. */
+static inline void hnho_put_word(uint8_t *words, size_t place, int32_t word) {
   uint32_t bits = (uint32_t)word;
   size_t i;
   for (i = 0; i < 4; i++)
-    job[4 * place + i] = (uint8_t)(bits >> 8 * i & 255u);
+    words[4 * place + i] = (uint8_t)(bits >> 8 * i & 255u);
 }
 
 #ifdef __cplusplus

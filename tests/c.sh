@@ -1,7 +1,8 @@
 #!/usr/bin/env bash
 # The C side: installs the kernel, compiles the header and the C files with warnings as errors, runs them under the address and
-# undefined-behaviour sanitizers and holds the example's output to examples/host.expected and the stored cases' to crates/replay/stdout.
-# The same example is built by pkg-config from a moved installation, outside the repository, as C and as C++. Its products are in target/c.
+# undefined-behaviour sanitizers, and holds the examples' output to examples/*.expected, the stored cases' to crates/replay/stdout.
+# The examples are built by pkg-config from a moved installation too, outside the repository, as C and as C++. Its products are in
+# target/c.
 set -u
 cd "$(dirname "$0")/.." || exit 2
 
@@ -34,21 +35,25 @@ compile() {
     -Itarget/dist/include "$1" target/dist/lib/libhnho.a -o "$2"
 }
 
-# page HOST: the example prints what is stored
+# page EXPECTED EXAMPLE ARGUMENT..: the example prints what is stored
 page() {
-  "$1" >target/c/host.out && diff -u examples/host.expected target/c/host.out
+  local expected=$1
+  shift
+  "$@" >target/c/example.out && diff -u "$expected" target/c/example.out
 }
 
-# fails HOST JOB TEXT: the example prints nothing on the job, says this and has status 1
+# fails STATUS TEXT EXAMPLE ARGUMENT..: the example prints nothing, says this and has this status
 fails() {
-  "$1" "$2" >target/c/host.out 2>target/c/host.err
-  [ $? -eq 1 ] && [ ! -s target/c/host.out ] && printf '%s\n' "$3" | diff -u - target/c/host.err
+  local status=$1 text=$2
+  shift 2
+  "$@" >target/c/example.out 2>target/c/example.err
+  [ $? -eq "$status" ] && [ ! -s target/c/example.out ] && printf '%s\n' "$text" | diff -u - target/c/example.err
 }
 
-# another_layout: the example with a header of layout 2
+# another_layout EXAMPLE: the example with a header of layout 2
 another_layout() {
   mkdir -p target/c/other && sed 's/^#define HNHO_LAYOUT .*/#define HNHO_LAYOUT 2/' include/hnho.h >target/c/other/hnho.h &&
-    gcc -std=c99 $warnings -Itarget/c/other examples/host.c target/dist/lib/libhnho.a -o target/c/other/host
+    gcc -std=c99 $warnings -Itarget/c/other "examples/$1.c" target/dist/lib/libhnho.a -o "target/c/other/$1"
 }
 
 # the archive answers the stored cases as is due for them
@@ -62,11 +67,12 @@ install_in() {
   (cd "$1" && "$top/tools/package" "$2")
 }
 
-# outside FOLDER COMPILER..: the example by pkg-config, with FOLDER/moved as the installation and no file of the repository
+# outside FOLDER EXAMPLE COMPILER..: FOLDER/EXAMPLE.c by pkg-config, with FOLDER/moved as the installation and no file of the
+# repository
 outside() (
-  cd "$1" && export PKG_CONFIG_PATH=$1/moved/lib/pkgconfig && shift &&
+  cd "$1" && export PKG_CONFIG_PATH=$1/moved/lib/pkgconfig && example=$2 && shift 2 &&
     flags=$(pkg-config --cflags hnho) && libraries=$(pkg-config --libs hnho) &&
-    "$@" $warnings $flags host.c $libraries -o host
+    "$@" $warnings $flags "$example.c" $libraries -o "$example"
 )
 
 step 'the package' tools/package
@@ -79,16 +85,50 @@ for standard in c++98 c++11 c++17 c++20; do
   step "the header as $standard" header g++ -x c++ -std=$standard
 done
 
-step 'compiling examples/host.c' compile examples/host.c target/c/host
-step 'the page of Job A' page target/c/host
+# the arguments of each example's page
+host=()
+truck=(2 1 examples/truck-line.bin 60@0 120@36 120@48)
+
+for example in host truck; do
+  declare -n arguments=$example
+  step "compiling examples/$example.c" compile "examples/$example.c" "target/c/$example"
+  step "the page of $example" page "examples/$example.expected" "target/c/$example" "${arguments[@]}"
+  step "$example with a header of another layout" another_layout "$example"
+  step "the message of $example about another layout" fails 1 "$example: hnho.h and libhnho.a are of different layouts" \
+    "target/c/other/$example" "${arguments[@]}"
+done
+
 head -c 336 examples/job-a.bin >target/c/short.bin
-step 'a refused job' fails target/c/host target/c/short.bin \
-  'refused 3 at 85: not the number of words that the header calls for; mended by whoever packs the job'
-step 'a header of another layout' another_layout
-step 'the message about another layout' fails target/c/other/host examples/job-a.bin 'host: hnho.h and libhnho.a are of different layouts'
+step 'a refused job' fails 1 'refused 3 at 85: not the number of words that the header calls for; mended by whoever packs the job' \
+  target/c/host target/c/short.bin
+
+train="the number of axles, or an axle's load or distance, outside its limits; mended by whoever gives the train"
+step 'a refused truck' fails 1 "refused 10 at 2: $train" target/c/truck "${truck[@]:0:4}" 120@35
+step 'a truck of no axles' fails 1 "refused 10 at 0: $train" target/c/truck "${truck[@]:0:3}"
+step 'a truck of 13 axles' fails 1 "refused 10 at 0: $train" \
+  target/c/truck "${truck[@]:0:3}" 1@0 1@0 1@0 1@0 1@0 1@0 1@0 1@0 1@0 1@0 1@0 1@0 1@0
+head -c 9000 /dev/zero >target/c/long.bin
+step 'a line too long' fails 1 "refused 2 at 0: a header word outside its limits; mended by whoever packs the job (at place 0 a short \
+account or report buffer, or h, N, the section's length or the mode of a train's call outside its limits; mended by the host)" \
+  target/c/truck 1 1 target/c/long.bin 1@0
+step 'a line that is not there' fails 1 'truck: target/c/none.bin cannot be read' target/c/truck 2 1 target/c/none.bin 60@0
+usage='usage: truck H MODE LINE LOAD@AT..'
+for axle in '' 60 60@ @0 60@x 60@0x 60@0@0 x60@0 -60@0 60@-1 +60@0 ' 60@0' '60@ 0' '60 @0' 4294967296@0 60@4294967296 \
+  18446744073709551676@0; do
+  step "the axle '$axle'" fails 2 "$usage" target/c/truck "${truck[@]}" "$axle"
+done
+for number in '' x 2x -2 +2 ' 2' 2.0 18446744073709551618; do
+  step "H '$number'" fails 2 "$usage" target/c/truck "$number" "${truck[@]:1}"
+  step "the mode '$number'" fails 2 "$usage" target/c/truck 2 "$number" "${truck[@]:2}"
+done
+for count in 0 1 2; do
+  step "$count arguments" fails 2 "$usage" target/c/truck "${truck[@]:0:count}"
+done
 
 step 'compiling tests/host_edges.c' compile tests/host_edges.c target/c/host_edges
 step 'tests/host_edges.c' target/c/host_edges examples/job-a.bin
+step 'compiling tests/train_edges.c' compile tests/train_edges.c target/c/train_edges
+step 'tests/train_edges.c' target/c/train_edges
 step 'compiling tests/stored_calls.c' compile tests/stored_calls.c target/c/stored_calls
 step 'the stored cases' stored
 
@@ -96,9 +136,12 @@ away=$(mktemp -d) || exit 2
 trap 'rm -rf "$away"' EXIT
 step 'an installation' install_in "$away" first
 step 'moving the installation' mv "$away/first" "$away/moved"
-step 'a copy of the example' cp examples/host.c "$away/host.c"
+step 'a copy of the examples' cp examples/host.c examples/truck.c "$away"
 for compiler in 'gcc -std=c99' 'g++ -x c++ -std=c++98' 'g++ -x c++ -std=c++20'; do
-  step "the example by $compiler and pkg-config" outside "$away" $compiler
-  step "the page by $compiler and pkg-config" page "$away/host"
+  for example in host truck; do
+    declare -n arguments=$example
+    step "$example by $compiler and pkg-config" outside "$away" "$example" $compiler
+    step "the page of $example by $compiler and pkg-config" page "examples/$example.expected" "$away/$example" "${arguments[@]}"
+  done
 done
-printf 'c.sh: the header, the example host, the edges, the stored cases and the installation are as due\n'
+printf 'c.sh: the header, the example hosts, the edges, the stored cases and the installation are as due\n'

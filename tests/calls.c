@@ -1,12 +1,11 @@
-/* Calls the kernel so many times on one job, or measures the stack that a call uses.
- *   calls JOB COUNT    makes COUNT calls, for an instruction count under callgrind
- *   calls JOB stack    prints the bytes of stack that one call used
+/* Calls the kernel so many times on one job or train, or measures the stack that a call uses.
+ *   calls job|train FILE COUNT    makes COUNT calls, for an instruction count under callgrind
+ *   calls job|train FILE stack    prints the bytes of stack that one call used
+ * A train is a call of tests/train_case.h.
  */
 #define _POSIX_C_SOURCE 200809L
-#include "hnho.h"
+#include "train_case.h"
 #include <pthread.h>
-#include <stdio.h>
-#include <stdlib.h>
 #include <string.h>
 
 enum { MOST_JOB = 65536, STACK = 1 << 18, PAINT = 0x5a };
@@ -15,30 +14,43 @@ static uint8_t job[MOST_JOB];
 static size_t job_bytes;
 static uint8_t patch[HNHO_MOST_PATCH_BYTES];
 static uint8_t account[HNHO_ACCOUNT_BYTES];
+static struct train_case train;
 
-static void *solve(void *used) {
-  uint64_t *result = used;
-  *result = hnho_solve(job, job_bytes, patch, sizeof patch, account, sizeof account);
+static uint64_t solve(void) {
+  return hnho_solve(job, job_bytes, patch, sizeof patch, account, sizeof account);
+}
+
+static uint64_t rate(void) {
+  return call_train(&train);
+}
+
+static uint64_t nothing(void) {
+  return 0;
+}
+
+/* A call to make, and its result. */
+struct work {
+  uint64_t (*call)(void);
+  uint64_t result;
+};
+
+static void *make(void *made) {
+  struct work *work = made;
+  work->result = work->call();
   return NULL;
 }
 
-static void *nothing(void *used) {
-  uint64_t *result = used;
-  *result = 0;
-  return NULL;
-}
-
-/* The bytes of a painted stack that a thread running `body` wrote. */
-static size_t stack_of(void *(*body)(void *)) {
+/* The bytes of a painted stack that a thread making a call wrote. */
+static size_t stack_of(uint64_t (*call)(void)) {
+  struct work work = {call, 0};
   uint8_t *stack = NULL;
-  uint64_t result = 0;
   pthread_attr_t attributes;
   pthread_t thread;
   size_t untouched = 0;
   if (posix_memalign((void **)&stack, 4096, STACK) != 0) exit(2);
   memset(stack, PAINT, STACK);
   if (pthread_attr_init(&attributes) != 0 || pthread_attr_setstack(&attributes, stack, STACK) != 0 ||
-      pthread_create(&thread, &attributes, body, &result) != 0 || pthread_join(thread, NULL) != 0) {
+      pthread_create(&thread, &attributes, make, &work) != 0 || pthread_join(thread, NULL) != 0) {
     fprintf(stderr, "calls: no thread\n");
     exit(2);
   }
@@ -47,21 +59,30 @@ static size_t stack_of(void *(*body)(void *)) {
   return STACK - untouched;
 }
 
+/* Reads a job or a train; the call to make on it, or none. */
+static uint64_t (*read_case(const char *kind, FILE *file))(void) {
+  if (strcmp(kind, "job") == 0) {
+    job_bytes = fread(job, 1, sizeof job, file);
+    return solve;
+  }
+  return strcmp(kind, "train") == 0 && read_train_case(file, &train) ? rate : NULL;
+}
+
 int main(int argc, char **argv) {
-  FILE *file = argc == 3 ? fopen(argv[1], "rb") : NULL;
+  FILE *file = argc == 4 ? fopen(argv[2], "rb") : NULL;
+  uint64_t (*call)(void) = file == NULL ? NULL : read_case(argv[1], file);
   uint64_t result = 0;
   long count;
-  if (file == NULL) {
-    fprintf(stderr, "usage: calls JOB COUNT|stack\n");
+  if (call == NULL) {
+    fprintf(stderr, "usage: calls job|train FILE COUNT|stack\n");
     return 2;
   }
-  job_bytes = fread(job, 1, sizeof job, file);
   fclose(file);
-  if (strcmp(argv[2], "stack") == 0) {
+  if (strcmp(argv[3], "stack") == 0) {
     size_t base = stack_of(nothing);
-    printf("%zu\n", stack_of(solve) - base);
+    printf("%zu\n", stack_of(call) - base);
     return 0;
   }
-  for (count = strtol(argv[2], NULL, 10); count > 0; count--) result |= hnho_solve(job, job_bytes, patch, sizeof patch, account, sizeof account);
+  for (count = strtol(argv[3], NULL, 10); count > 0; count--) result |= call();
   return result == 0 ? 0 : 1;
 }

@@ -6,16 +6,10 @@
  *
  * Ends with status 1 and a message at the first failure.
  */
-#include <inttypes.h>
-#include <stdio.h>
-#include <stdlib.h>
-#include <string.h>
-
-#include "hnho.h"
+#define PROGRAM "host_edges"
+#include "edges.h"
 
 enum {
-  GUARD = 64,
-  GUARD_BYTE = 0xa5,
   OLD_PATCH = 0x5a, /* what the buffers hold before a call */
   OLD_ACCOUNT = 0xc3,
   WORDS = 85, /* of Job A */
@@ -28,59 +22,6 @@ enum {
 
 /* Job A, as it was read. */
 static uint8_t job_a[4 * WORDS];
-
-static const char *step = "";
-static int calls;
-
-static void fail(const char *what) {
-  fprintf(stderr, "host_edges: FAILED: %s: %s\n", step, what);
-  exit(1);
-}
-
-static void expect(int holds, const char *what) {
-  if (!holds)
-    fail(what);
-}
-
-/* A buffer with guard bytes on both sides. */
-struct buffer {
-  uint8_t *all;
-  uint8_t *bytes;
-  size_t n;
-};
-
-static struct buffer lend(size_t n, int fill) {
-  struct buffer b;
-  b.all = malloc(n + 2 * GUARD);
-  expect(b.all != NULL, "no memory");
-  memset(b.all, GUARD_BYTE, n + 2 * GUARD);
-  b.bytes = b.all + GUARD;
-  b.n = n;
-  memset(b.bytes, fill, n);
-  return b;
-}
-
-static struct buffer lend_null(void) {
-  struct buffer b = {NULL, NULL, 0};
-  return b;
-}
-
-/* The bytes at places from `from` up to `to` are all the same. */
-static int all_are(const uint8_t *bytes, size_t from, size_t to, int byte) {
-  size_t i;
-  for (i = from; i < to; i++)
-    if (bytes[i] != byte)
-      return 0;
-  return 1;
-}
-
-static void take_back(struct buffer b, const char *what) {
-  if (b.all == NULL)
-    return;
-  expect(all_are(b.all, 0, GUARD, GUARD_BYTE), what);
-  expect(all_are(b.bytes, b.n, b.n + GUARD, GUARD_BYTE), what);
-  free(b.all);
-}
 
 /* What a refusal leaves: the patch buffer as before, the account's bytes 0, those past them as before. */
 static void expect_cleared(struct buffer patch, struct buffer account) {
@@ -189,11 +130,7 @@ static void call(const uint8_t *words, size_t bytes, size_t patch_bytes, size_t 
   if (bytes > 0)
     memcpy(job.bytes, words, bytes);
   result = hnho_solve(job.bytes, job.n, patch.bytes, patch.n, account.bytes, account.n);
-  calls++;
-  if (hnho_refusal(result) != number || hnho_place(result) != place) {
-    fprintf(stderr, "host_edges: FAILED: %s: expected %d at %" PRIu64 ", got %d at %" PRIu64 "\n", step, number, place, hnho_refusal(result), hnho_place(result));
-    exit(1);
-  }
+  expect_result(result, number, place);
   expect(bytes == 0 || memcmp(job.bytes, words, bytes) == 0, "the job changed");
   if (result == 0)
     expect_job_a(patch, account);
@@ -352,11 +289,11 @@ static void layout(void) {
   expect(hnho_layout() == 1, "the archive's layout");
 }
 
-/* Every number's text: there is one, it is a line, no other number's, and names who mends it as document 01 does. */
+/* Every number's text: there is one, it is a line, no other number's, and names who mends it. */
 static void refusal_texts(void) {
   static const char packs[] = "whoever packs the job", lines[] = "whoever works out the lines", factors[] = "whoever keeps the factors";
-  static const char host[] = "the host";
-  static const char *const mended_by[] = {"", packs, packs, packs, lines, lines, factors, factors, factors, host, ""};
+  static const char host[] = "the host", train[] = "whoever gives the train";
+  static const char *const mended_by[] = {"", packs, packs, packs, lines, lines, factors, factors, factors, host, train, ""};
   int texts = (int)(sizeof mended_by / sizeof *mended_by), i, j;
   step = "hnho_refusal_text";
   for (i = 0; i < texts; i++) {
@@ -366,9 +303,9 @@ static void refusal_texts(void) {
     for (j = 0; j < i; j++)
       expect(strcmp(text, hnho_refusal_text(j)) != 0, "is another number's");
   }
-  expect(strstr(hnho_refusal_text(HNHO_HEADER_LIMIT), host) != NULL, "does not tell of a short account buffer");
+  expect(strstr(hnho_refusal_text(HNHO_HEADER_LIMIT), host) != NULL, "does not tell of a short buffer");
   for (i = -1; i < 256; i += i < 0 ? texts + 1 : 1)
-    expect(strcmp(hnho_refusal_text(i), hnho_refusal_text(10)) == 0, "is of no refusal");
+    expect(strcmp(hnho_refusal_text(i), hnho_refusal_text(texts - 1)) == 0, "is of no refusal");
 }
 
 static void read_job_a(const char *path) {

@@ -1,7 +1,8 @@
-//! The kernel as a host sees it: `hnho_solve` and `hnho_read_account` of include/hnho.h behind safe functions, and what the second
-//! implementation says of its answers.
+//! The kernel as a host sees it: `hnho_solve`, `hnho_read_account` and `hnho_train` of include/hnho.h behind safe functions, and what
+//! the second implementation says of their answers.
 
 pub mod header;
+pub mod trains;
 
 pub use header::ACCOUNT_BYTES;
 use second::account::{Account, Answer, Governing, Stand, State, Traffic};
@@ -158,5 +159,15 @@ fn same(what: &str, found: i64, due: i64) -> Result<(), String> {
         Ok(())
     } else {
         Err(format!("{what} is {found}, {due} is due"))
+    }
+}
+
+/// A number that the environment gives by this name, else the default.
+pub fn asked(name: &str, default: u64) -> u64 {
+    match std::env::var(name) {
+        Ok(text) => text
+            .parse()
+            .unwrap_or_else(|_| panic!("{name} is not a number: {text}")),
+        Err(_) => default,
     }
 }

@@ -1,20 +1,10 @@
 //! The kernel agrees with the second implementation on generated jobs, and no drawn arrangement beats a report.
 
-use random::{call, judged, solve, ACCOUNT_BYTES};
+use random::{asked, call, judged, solve, ACCOUNT_BYTES};
 use second::generator::{case, Case, Edition};
 use second::job::Job;
 use second::words::words_of;
 use second::{chosen, sampler};
-
-/// Checks COUNT cases of each edition from SEED on (environment, with these defaults).
-fn asked(name: &str, default: u64) -> u64 {
-    match std::env::var(name) {
-        Ok(text) => text
-            .parse()
-            .unwrap_or_else(|_| panic!("{name} is not a number: {text}")),
-        Err(_) => default,
-    }
-}
 
 /// The refusal of a case, 0 for an accepted one, where the kernel's answer is right.
 fn agreed_refusal(case: &Case) -> Result<u64, String> {
@@ -30,6 +20,7 @@ fn kernel_and_second_implementation_agree_on_chosen_cases() {
     }
 }
 
+/// Checks COUNT cases of each edition from SEED on (environment, with these defaults).
 #[test]
 fn kernel_and_second_implementation_agree() {
     let first = asked("SEED", 0);

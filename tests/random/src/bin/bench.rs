@@ -1,21 +1,45 @@
-//! Time per job of the kernel and of the second implementation, side by side in one run.
-//! `bench jobs DIR` writes the jobs it measures instead. The buffers are not cleared between calls.
+//! Time per job and per train of the kernel and of the second implementation, side by side in one run.
+//! `bench cases DIR` writes what it measures instead. The buffers are not cleared between calls.
 
 use random::call;
+use random::trains::{case_bytes, rate, truck};
+use second::train::{Axle, TrainCase, REPORT_BYTES};
 use second::words::bytes_of;
 use std::hint::black_box;
 use std::time::Instant;
 
-/// The largest tables over N pieces of 1 dm: five lanes, 16 effects, 32 rows, 512 records; signs change every 7 pieces.
+/// A line's words; signs change every 7 pieces.
+fn line(pieces: i32) -> Vec<i32> {
+    let ordinates = |i: i32| {
+        let sign = if i / 7 % 2 == 0 { 1 } else { -1 };
+        [sign * (i * 37 % 5000 + 1), sign * (i * 53 % 5000 + 1)]
+    };
+    (0..pieces).flat_map(ordinates).collect()
+}
+
+/// 12 axles over 500 dm on 1000 pieces of 1 dm.
+fn largest_train(mode: u64) -> TrainCase {
+    let axle = |i: u32| Axle {
+        load: 400 - i,
+        at: 500 * i / 11,
+    };
+    TrainCase {
+        h: 1,
+        pieces: 1000,
+        line: bytes_of(&line(1000)),
+        train: (0..12).map(axle).collect(),
+        mode,
+        report: vec![0; REPORT_BYTES],
+    }
+}
+
+/// The largest tables over N pieces of 1 dm: five lanes, 16 effects, 32 rows, 512 records.
 fn full(pieces: i32) -> Vec<u8> {
     let (width, spacing, effects, rows, records) = (2079, 10, 16, 32, 512);
     let mut words = vec![
         1, 1, pieces, spacing, width, 1, 1300, effects, rows, records,
     ];
-    for i in 0..pieces {
-        let sign = if i / 7 % 2 == 0 { 1 } else { -1 };
-        words.extend([sign * (i * 37 % 5000 + 1), sign * (i * 53 % 5000 + 1)]);
-    }
+    words.extend(line(pieces));
     let spaces = (width + spacing - 1) / spacing;
     words.extend((0..=spaces).map(|i| i * 71 % 2001 - 1000));
     for e in 0..effects {
@@ -65,18 +89,25 @@ fn main() {
         ("N 500, full tables", full(500), 1_000),
         ("largest (N 1000, full tables)", full(1000), 1_000),
     ];
+    let trains = [
+        ("truck (3 axles, N 50)", truck(1), 20_000),
+        ("largest train, mode 1", largest_train(1), 100),
+        ("largest train, mode 2", largest_train(2), 100),
+    ];
     let arguments: Vec<String> = std::env::args().skip(1).collect();
     if let [command, folder] = arguments.as_slice() {
-        assert_eq!(command, "jobs", "usage: bench [jobs DIR]");
+        assert_eq!(command, "cases", "usage: bench [cases DIR]");
         for (number, (_, job, _)) in jobs.iter().enumerate() {
-            let path = format!("{folder}/{number}.job");
-            std::fs::write(&path, job).unwrap_or_else(|fault| panic!("{path}: {fault}"));
+            write(&format!("{folder}/{number}.job"), job);
+        }
+        for (number, (_, train, _)) in trains.iter().enumerate() {
+            write(&format!("{folder}/{number}.train"), &case_bytes(train));
         }
         return;
     }
     println!(
         "{:32} {:>12} {:>12} {:>8}",
-        "job", "kernel ns", "second ns", "ratio"
+        "job or train", "kernel ns", "second ns", "ratio"
     );
     for (name, job, calls) in &jobs {
         let mut patch = [0u8; 1000];
@@ -95,9 +126,33 @@ fn main() {
             },
             *calls / 10,
         );
-        println!(
-            "{name:32} {kernel:12.0} {second:12.0} {:8.1}",
-            second / kernel
-        );
+        print(name, kernel, second);
     }
+    for (name, train, calls) in &trains {
+        assert_eq!(rate(train).0, 0, "{name} is refused");
+        let kernel = time(
+            || {
+                black_box(rate(black_box(train)));
+            },
+            *calls,
+        );
+        let second = time(
+            || {
+                black_box(second::train::call(black_box(train)));
+            },
+            *calls / 10,
+        );
+        print(name, kernel, second);
+    }
+}
+
+fn print(name: &str, kernel: f64, second: f64) {
+    println!(
+        "{name:32} {kernel:12.0} {second:12.0} {:8.1}",
+        second / kernel
+    );
+}
+
+fn write(path: &str, bytes: &[u8]) {
+    std::fs::write(path, bytes).unwrap_or_else(|fault| panic!("{path}: {fault}"));
 }
