@@ -253,14 +253,19 @@ pub fn rating(line: &[u8], h: u32, n: usize, mode: Mode, axles: [Axle; 12], coun
     ensures { λ r. ⌜ RatingRight mode (influenceLine (now (line .entry)) h n) (take count axles) r ⌝ }
 {
     let given = in_pieces(h, Way::AsGiven, axles, count);
-    let a = one_way(line, n, mode, given);
-    let b = one_way(line, n, mode, in_pieces(h, Way::Turned, axles, count));
-    let ag = a.greatest;
-    let al = a.least;
-    let bg = b.greatest;
-    let bl = b.least;
-    let greatest = of_both(Question::Greatest, ag, bg, given.length);
-    let least = of_both(Question::Least, al, bl, given.length);
+    let as_given = one_way(line, n, mode, given);
+    let turned = one_way(line, n, mode, in_pieces(h, Way::Turned, axles, count));
+    let given_greatest = as_given.greatest;
+    let given_least = as_given.least;
+    let turned_greatest = turned.greatest;
+    let turned_least = turned.least;
+    let greatest = of_both(
+        Question::Greatest,
+        given_greatest,
+        turned_greatest,
+        given.length,
+    );
+    let least = of_both(Question::Least, given_least, turned_least, given.length);
     let difference = difference(greatest.value, least.value);
     Rating {
         greatest,
