@@ -3,7 +3,7 @@ use borrow.Author.Tests.{ne-eqb}
 use mathlib.Core.Path.{_≡_, refl, _∙_, ap, ap₂}
 use mathlib.Core.Bool.{Bool, true, false}
 use mathlib.Core.Option.{Option, none, some}
-use mathlib.Core.List.{List, [], _∷_}
+use mathlib.Core.List.{List}
 use Prim.Native.Nat.{ℕ, _≤_}
 use native.Mathlib.Omega.{arith}
 use lib.Dec.{eqb}
@@ -11,9 +11,10 @@ use lib.ListN.{length}
 use Rattle.exact.specs.Choice.{if_then_else_}
 use Rattle.words.specs.Fields.{misfit}
 use Rattle.model.specs.Format.{lineLayout}
-use Rattle.model.specs.Refusals.{Refusal, Test, refuse, firstRefusal, signs, packed}
+use Rattle.model.specs.Refusals.{Refusal, refuse, signs, packed}
 use Rattle.model.specs.Trains.{TrainCall, argumentsFit, trainFault, trainTests, trainVerdict}
 use Rattle.model.specs.declared.Axle.{Axle}
+use Rattle.model.proofs.RefusalNumbers.{train-number-small}
 use Rattle.trains.specs.Rated.{resultOf}
 
 -- ---- made of the tests
@@ -42,22 +43,13 @@ unfolding trainVerdict trainTests
 by-fault h n mode room s t u e = rw e refl
 
 -- ---- told by a result
--- every test has a number, so 0 is no refusal
-abbrev Numbered : List Test → Type 0
-Numbered [] = Unit {0}
-Numbered (t ∷ rest) = (1 ≤ t .number) × Numbered rest
-
-first-zero : (tests : List Test) → Numbered tests → resultOf (firstRefusal tests) ≡ 0 → firstRefusal tests ≡ none
-first-zero [] n e = refl
-first-zero (t ∷ rest) n e = go (t .found) e (first-zero rest (n .1))
-  where
-    go : (o : Option ℕ) → resultOf (refuse (t .number) o (firstRefusal rest)) ≡ 0 → (resultOf (firstRefusal rest) ≡ 0 → firstRefusal rest ≡ none) → refuse (t .number) o (firstRefusal rest) ≡ none
-    go none f later = later f
-    go (some p) f later = absurd (omega (arith, n .0))
-
+-- 0 is no refusal
 pub zero-accepts : (c : TrainCall) (room : ℕ) → resultOf (trainVerdict c room) ≡ 0 → trainVerdict c room ≡ none
-unfolding trainVerdict trainTests
-zero-accepts c room e = first-zero (trainTests c room) (omega arith, (omega arith, (omega arith, (omega arith, tt)))) e
+zero-accepts c room e = go (trainVerdict c room) refl e
+  where
+    go : (v : Option Refusal) → trainVerdict c room ≡ v → resultOf v ≡ 0 → v ≡ none
+    go none f z = refl
+    go (some r) f z = absurd (omega (arith, train-number-small c room f))
 
 -- another number is one
 pub other-refuses : (v : Option Refusal) → ¬ (resultOf v ≡ 0) → (r : Refusal) × (v ≡ some r)
