@@ -5,7 +5,9 @@ use mathlib.Core.Bool.{true}
 use mathlib.Core.Option.{Option, none}
 use Prim.Native.Nat.{ℕ}
 use native.Mathlib.Omega.{arith}
+use lib.Dec.{eqb}
 use lib.ListN.{length}
+use Rattle.exact.specs.Choice.{if_then_else_}
 use Rattle.words.specs.Fields.{misfit}
 use Rattle.words.proofs.Fits.{below}
 use Rattle.model.specs.Format.{lineLayout}
@@ -101,9 +103,13 @@ module _ (c : tie.After-or-else) where
   abbrev so : tie.Start
   so = st (fit10 (r10 .before))
 
+  -- as the code orders them
+  chosen : c .or-else .result ≡ (if eqb (r5 .refusal2 .result) 0 then r10 .refusal3 .result else r5 .refusal2 .result)
+  chosen = c .or-else .ensures
+
   later-two : c .or-else .result ≡ resultOf (refuse 5 (found-5 so) (refuse 10 (found-10 so) none))
   later-two =
-      c .or-else .ensures
+      chosen
       ∙ then-later 5 (found-5 so) (refuse 10 (found-10 so) none) (omega arith)
       (r5 .refusal2 .ensures ∙ ap (λ (o : Option ℕ). resultOf (refuse 5 o none)) (r5 .before .crossing .ensures))
       (r10 .refusal3 .ensures ∙ ap (λ (o : Option ℕ). resultOf (refuse 10 o none)) (r10 .before .train-fault .ensures))
