@@ -2,3 +2,4 @@ mod Gathering
 mod Verdicts
 mod Accepted
 pub mod Results
+pub mod Given

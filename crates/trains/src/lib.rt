@@ -8,7 +8,6 @@ use model::Mode;
 ghost use mathlib.Core.Path.{_≡_};
 ghost use mathlib.Core.Bool.{_&&_};
 ghost use mathlib.Core.Option.{none, some};
-ghost use mathlib.Core.List.{List};
 ghost use Prim.Native.Nat.{ℕ, suc, _≤_, _<_};
 ghost use lib.Dec.{eqb};
 ghost use lib.IntN.{pos};
@@ -17,10 +16,8 @@ ghost use Rattle.words.specs.Fields.{admits, firstAnswer};
 ghost use Rattle.model.specs.Format.{pieceLength, pieceCount};
 ghost use Rattle.model.specs.Refusals.{unless, packed, refuse};
 ghost use Rattle.model.specs.Trains.{modeOf, argumentsFit, inOrder, axleFits, trainFault, trainVerdict};
-ghost use Rattle.model.specs.declared.Axle.{Axle};
 ghost use Rattle.limits.specs.Faults.{placeOf};
 ghost use Rattle.sections.specs.Sized.{Counted};
-ghost use Rattle.axles.specs.Gathering.{gatheredOf};
 ghost use Rattle.trains.specs.TrainOf.{trainOf};
 ghost use Rattle.trains.specs.Rated.{resultOf, Rated};
 
@@ -198,7 +195,7 @@ pub fn rate(
     mode: usize,
     report: &mut [u8],
 ) -> u64
-    ensures { λ r. ⌜ ((t : List Axle) → g ≡ gatheredOf t → Rated (record { h = h; pieces = pieces; section = now (line .entry); train = t; mode = mode }) (now (report .entry)) r (now (report .exit))) ⌝ }
+    ensures { λ r. ⌜ Rated (record { h = h; pieces = pieces; section = now (line .entry); train = trainOf g; mode = mode }) (now (report .entry)) r (now (report .exit)) ⌝ }
 {
     let refusal = verdict(h, pieces, line, g, mode, report.len());
     if refusal != 0 {

@@ -1,5 +1,5 @@
 -- `hnho_train` meets its contract: `gather` gets a copy of what the train owns; `rate` gets the numbers, the line, what was gathered, and the report for good, so that its last bytes are those at exit.
-use mathlib.Core.Path.{_≡_, refl}
+use mathlib.Core.Path.{_≡_, refl, subst}
 use Prim.Native.Nat.{ℕ, _<_, _^_}
 use mathlib.Core.List.{List, [], _∷_}
 use lib.ListN.{length}
@@ -39,6 +39,8 @@ use Rattle.model.specs.declared.Axle.{Axle}
 use Rattle.axles.specs.Gathering.{gatheredOf}
 use Rattle.axles.specs.declared.Gathered.{Gathered}
 use Rattle.trains.specs.Rated.{Rated}
+use Rattle.trains.specs.TrainOf.{trainOf}
+use Rattle.trains.proofs.Given.{given-rated}
 use Rattle.model.proofs.Axle as T
 use Rattle.axles.proofs.Gathered as G
 use Rattle.axles.proofs.Gathered.Laws as G′
@@ -144,7 +146,11 @@ module _ {M : Type 1} (𝓤 : URA M) (H : Heap 𝓤) (A : Atoms 𝓤) (W : Given
   Due t zs r = Rated (record { h = h; pieces = pieces; section = line .now; train = t; mode = mode }) (report .now) r zs
 
   abbrev Said : Gathered → List ℕ → ℕ → Type 0
-  Said g zs r = (t : List Axle) → g ≡ gatheredOf t → Due t zs r
+  Said g zs r = Due (trainOf g) zs r
+
+  -- of the train that was gathered, so of the train given
+  due : (g : Gathered) → g ≡ gatheredOf (train .now) → (zs : List ℕ) (r : ℕ) → Said g zs r → Due (train .now) zs r
+  due g same zs r e = given-rated h pieces mode (line .now) (train .now) (subst (λ (x : Gathered). Said x zs r) same e)
 
   exits : (r : ℕ) (u : Val) (zs : List ℕ) → Due (train .now) zs r → length zs ≡ length (report .now) → ent 𝓤 (⋆ 𝓤 H A (‵ (u64 .own r (u ∷ [])) ∷ ‵ (flft κ₀ q₀) ∷ ‵ (flft κ₁ q₁) ∷ ‵ (flft κ₂ q₂) ∷ ‵ Own-line ∷ ‵ Own-train ∷ ‵ (finally u8 (report .name) zs) ∷ [])) (Post u)
   exits r u zs e same =
@@ -190,7 +196,7 @@ module _ {M : Type 1} (𝓤 : URA M) (H : Heap 𝓤) (A : Atoms 𝓤) (W : Given
         returns ! (look ! 25 refl) $ forget ! 7 refl $ forget ! 9 refl $ forget ! 11 refl $ forget ! 13 refl $ forget ! 15 refl $ forget ! 17 refl $ forget ! 19 refl $ forget ! 21 refl $ forget ! 23 refl $ forget ! 25 refl $
         move ! (25 ∷ 26 ∷ []) $ free1 ! $ move ! (23 ∷ 24 ∷ []) $ free1 ! $ move ! (21 ∷ 22 ∷ []) $ free1 ! $ move ! (19 ∷ 20 ∷ []) $ free1 ! $ move ! (17 ∷ 18 ∷ []) $ free1 ! $ move ! (15 ∷ 16 ∷ []) $ free1 ! $ move ! (13 ∷ 14 ∷ []) $ free1 ! $ move ! (11 ∷ 12 ∷ []) $ free1 ! $ move ! (9 ∷ 10 ∷ []) $ free1 ! $ move ! (7 ∷ 8 ∷ []) $ free1 ! $ free0 ! $
         keep ! (0 ∷ 2 ∷ 5 ∷ 1 ∷ 4 ∷ 6 ∷ 3 ∷ []) $
-        by ! (exits r w (ws .1 .1 .1 .1 .1 .0) (e (train .now) is-gathered) same)))))))))))))))))))))
+        by ! (exits r w (ws .1 .1 .1 .1 .1 .0) (due g is-gathered (ws .1 .1 .1 .1 .1 .0) r e) same)))))))))))))))))))))
 
 module _ {M : Type 1} (𝓤 : URA M) (H : Heap 𝓤) (A : Atoms 𝓤) (W : Given 𝓤 H A) (mem : Memory → SProp 𝓤) (run : Routine → Fun 𝓤) where
   train-walks : (C : Calls 𝓤 H) (Λ : Loops 𝓤 H) → FmC 𝓤 H (W .laws) C → Triple 𝓤 (C #axles·gather) (Gather 𝓤 H A mem run) → Triple 𝓤 (C #trains·rate) (Rate 𝓤 H A mem run) → Walks 𝓤 H A f.ended stayed (WpFn 𝓤 H C Λ code.function) (f.clauses 𝓤 H A mem run)

@@ -6,18 +6,15 @@ use Prim.Native.Nat.{ℕ, _≤_}
 use native.Mathlib.Omega.{arith}
 use lib.ListN.{length, take, length-map}
 use Rattle.model.specs.Decode.{influenceLine}
-use Rattle.model.specs.Trains.{TrainCall, modeOf, RatingRight, trainFault, trainVerdict}
+use Rattle.model.specs.Trains.{TrainCall, modeOf, RatingRight, trainVerdict}
 use Rattle.model.specs.declared.Axle.{Axle}
 use Rattle.model.specs.declared.Mode.{Mode}
 use Rattle.model.proofs.TrainLimits.{CallClear, call-clear, axle-count}
 use Rattle.stands.specs.TrainFits.{Ratable}
-use Rattle.axles.specs.Gathering.{gatheredOf}
-use Rattle.axles.specs.declared.Gathered.{Gathered}
-use Rattle.axles.proofs.Trains.{gathered-train}
 use Rattle.trains.specs.TrainOf.{trainOf}
 use Rattle.trains.specs.Rated.{resultOf, refused, rated}
-use Rattle.trains.proofs.Gathering.{train-few, train-count, gathered-fault}
-use Rattle.trains.proofs.Verdicts.{by-fault, zero-accepts, other-refuses}
+use Rattle.trains.proofs.Gathering.{train-few, train-count}
+use Rattle.trains.proofs.Verdicts.{zero-accepts, other-refuses}
 use Rattle.trains.proofs.Accepted.{ratable}
 use Rattle.trains.proofs.rate.Statement.{statement}
 use Rattle.trains.proofs.rate.Tie as tie
@@ -26,16 +23,13 @@ module _ (s : tie.Start) where
   abbrev room : ℕ
   room = length (s .args .report .now)
 
-  -- the call, of a train
-  abbrev call : List Axle → TrainCall
-  call t = record { h = s .args .h; pieces = s .args .pieces; section = s .args .line .now; train = t; mode = s .args .mode }
+  -- the call, of the train that was gathered
+  abbrev call : TrainCall
+  call = record { h = s .args .h; pieces = s .args .pieces; section = s .args .line .now; train = trainOf (s .args .g); mode = s .args .mode }
 
-  -- the train that was gathered has its number, and the verdict of the train given
+  -- which has its number
   counted : length (trainOf (s .args .g)) ≡ s .args .g .count
   counted = train-count (s .args .g) (sym (length-map (s .args .g .axles) _) ∙ s .good .1 .1 .1 .0 .1 .1 .0 .1 .0 .1)
-
-  verdict-is : (t : List Axle) → s .args .g ≡ gatheredOf t → trainVerdict (call (trainOf (s .args .g))) room ≡ trainVerdict (call t) room
-  verdict-is t e = by-fault (s .args .h) (s .args .pieces) (s .args .mode) room (s .args .line .now) (trainOf (s .args .g)) t (ap (λ (g : Gathered). trainFault (s .args .h) (trainOf g)) e ∙ gathered-fault (s .args .h) t)
 
 -- a call that is not refused
 module _ (c : tie.Else1) where
@@ -45,10 +39,10 @@ module _ (c : tie.Else1) where
   abbrev given : List Axle
   given = take (st .args .g .count) (st .args .g .axles)
 
-  accepted : trainVerdict (call st (trainOf (st .args .g))) (room st) ≡ none
+  accepted : trainVerdict (call st) (room st) ≡ none
   accepted = zero-accepts _ _ (sym (c .before .verdict .ensures) ∙ c .if1 .left)
 
-  clear : CallClear (call st (trainOf (st .args .g))) (room st)
+  clear : CallClear (call st) (room st)
   clear = call-clear _ _ accepted
 
   few : st .args .g .count ≤ 12
@@ -58,13 +52,12 @@ module _ (c : tie.Else1) where
   ready = subst (λ (t : List Axle). (length t ≡ st .args .g .count) × Ratable (st .args .line .now) (st .args .h) (st .args .pieces) t) (train-few (st .args .g) few) (counted st, ratable _ _ clear)
 
 returns : tie.Need-returns
-returns c t e =
+returns c =
     let k = c .before .before .before .before in
     let v = k .before in
     let s = v .before .before .before in
-    let is = verdict-is s t e in
-    let r = other-refuses (trainVerdict (call s t) (room s)) (λ z. k .if1 .taken (v .verdict .ensures ∙ ap resultOf is ∙ z)) in
-    refused (r .0) (r .1) (v .verdict .ensures ∙ ap resultOf (is ∙ r .1)) (c .before .before .clear .ensures)
+    let r = other-refuses (trainVerdict (call s) (room s)) (λ z. k .if1 .taken (v .verdict .ensures ∙ z)) in
+    refused (r .0) (r .1) (v .verdict .ensures ∙ ap resultOf (r .1)) (c .before .before .clear .ensures)
 
 cast-rating : tie.Need-cast-rating
 cast-rating c = record { fits = omega (arith, clear (c .before) .arguments .length) }
@@ -76,15 +69,13 @@ write-requires : tie.Need-write-requires
 write-requires c κs = clear (c .before .before .before .before) .arguments .holds
 
 returns-2 : tie.Need-returns-2
-returns-2 c t e =
+returns-2 c =
     let k = c .before .before .before .before .before .before .before in
     let s = st k in
     let r = c .before .before .before .before in
-    let n = ap (λ (g : Gathered). g .count) e in
-    let same : given k ≡ t = ap (λ (g : Gathered). take (g .count) (g .axles)) e ∙ gathered-train t (omega (arith, few k)) in
     let line = influenceLine (s .args .line .now) (s .args .h) (s .args .pieces) in
-    rated (sym (verdict-is s t e) ∙ accepted k) (r .rating .result)
-    (subst (λ (u : List Axle). RatingRight (modeOf (s .args .mode)) line u (r .rating .result)) same
+    rated (accepted k) (r .rating .result)
+    (subst (λ (t : List Axle). RatingRight (modeOf (s .args .mode)) line t (r .rating .result)) (sym (train-few (s .args .g) (few k)))
     (subst (λ (m : Mode). RatingRight m line (given k) (r .rating .result)) (r .before .mode-of .ensures) (r .rating .ensures)))
     refl (c .before .before .write .ensures .0) (c .before .before .write .ensures .1)
 
