@@ -8,7 +8,7 @@ use crate::job_a::job_a;
 use crate::sections::{
     DYNAMIC_KIND, DYNAMIC_VALUE, EFFECTS, PIECES, PIECE_LENGTH, RECORDS, ROWS, WIDTH,
 };
-use crate::words::{bytes_of, words_of};
+use crate::words::{bytes_of, changed, words_of, Change};
 
 const BUILDERS: [fn() -> Case; 8] = [
     most_words,
@@ -25,9 +25,6 @@ const BUILDERS: [fn() -> Case; 8] = [
 const EFFECT: usize = 69;
 const ROW: usize = 71;
 const RECORD: usize = 79;
-
-/// A place and the word to put there.
-type Change = (usize, i32);
 
 /// Changes of Job A, the last of each to a word outside its limits: next to a
 /// limit, or as far from it as a word can be, where no generated case is refused
@@ -103,11 +100,7 @@ pub fn cases() -> impl Iterator<Item = Case> {
 
 /// Job A with words changed.
 fn changed_job_a(changes: &[Change]) -> Case {
-    with_words(job_a_with(|_| ()), |words| {
-        for &(place, word) in changes {
-            words[place] = word;
-        }
-    })
+    with_words(job_a_with(|_| ()), |words| *words = changed(words, changes))
 }
 
 /// Every section as long as it may be: 3915 words.

@@ -16,3 +16,15 @@ pub fn words_of(bytes: &[u8]) -> Vec<i32> {
 pub fn bytes_of(words: &[i32]) -> Vec<u8> {
     words.iter().flat_map(|word| word.to_le_bytes()).collect()
 }
+
+/// A place and the word to put there.
+pub type Change = (usize, i32);
+
+/// These words with some changed.
+pub fn changed(words: &[i32], changes: &[Change]) -> Vec<i32> {
+    let mut words = words.to_vec();
+    for &(place, word) in changes {
+        words[place] = word;
+    }
+    words
+}
