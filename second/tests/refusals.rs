@@ -210,6 +210,75 @@ fn refusal_4_at_each_ordinate() {
     refused_with(&[(20, 1001), (13, 5001)], (4, 13));
 }
 
+/// Words that are lawful in their low 16 bits: 5 in the first three, then 0, -5
+/// or a limit; and the ends of 16 bits.
+#[test]
+fn refusal_4_tests_the_whole_word() {
+    for place in 10..21 {
+        for word in [65541, -65531, -2147483643, 65536, 65531, 2147483643] {
+            refused_with(&[(place, word)], (4, place as u64));
+        }
+        for word in [66536, 64536, -66536, -64536, 70536, 60536, -70536, -60536] {
+            refused_with(&[(place, word)], (4, place as u64));
+        }
+        for word in [32767, 32768, -32768, -32769, 65535, -65535, -65536] {
+            refused_with(&[(place, word)], (4, place as u64));
+        }
+    }
+}
+
+#[test]
+fn refusal_4_of_two_wide_words_gives_the_lower_place() {
+    refused_with(&[(10, 65541), (11, 65541)], (4, 10));
+    refused_with(&[(11, -65531), (12, 65541)], (4, 11));
+    refused_with(&[(13, -2147483643), (14, 65541)], (4, 13));
+    refused_with(&[(14, 65541), (20, -65531)], (4, 14));
+    // One of the two is outside in its low 16 bits as well.
+    refused_with(&[(12, 65541), (13, 5001)], (4, 12));
+    refused_with(&[(12, 5001), (13, 65541)], (4, 12));
+    refused_with(&[(13, 65541), (14, 1001)], (4, 13));
+    refused_with(&[(17, 1001), (20, 65541)], (4, 17));
+}
+
+/// 65541 and -65531 are 5 in their low 16 bits, 65531 and -65541 are -5.
+#[test]
+fn refusal_4_of_a_wide_word_comes_before_5() {
+    // Another piece crosses zero.
+    refused_with(&[(10, -1), (11, 1), (12, 65541)], (4, 12));
+    refused_with(&[(10, -1), (11, 1), (20, 65541)], (4, 20));
+    refused_with(&[(11, 65541), (12, 1), (13, -1)], (4, 11));
+    // The whole word crosses, and its low 16 bits do too.
+    refused_with(&[(10, 65541), (11, -5)], (4, 10));
+    refused_with(&[(12, -5), (13, 65541)], (4, 13));
+    // The low 16 bits cross, the whole word doesn't.
+    refused_with(&[(10, -65531), (11, -5)], (4, 10));
+    refused_with(&[(12, 5), (13, 65531)], (4, 13));
+    // The whole word crosses, the low 16 bits don't.
+    refused_with(&[(10, -65531), (11, 5)], (4, 10));
+    refused_with(&[(12, -5), (13, 65531)], (4, 13));
+    refused_with(&[(12, 65536), (13, -5)], (4, 12));
+}
+
+#[test]
+fn ordinates_at_their_limits_are_accepted() {
+    let table = [
+        (10..=11, 5000),
+        (12..=13, 5000),
+        (10..=13, 5000),
+        (14..=14, 1000),
+        (17..=17, 1000),
+        (20..=20, 1000),
+        (14..=20, 1000),
+    ];
+    for (places, most) in table {
+        for word in [most, -most] {
+            let changes: Vec<_> = places.clone().map(|place| (place, word)).collect();
+            let answer = solve(&bytes_of(&with(&changes)), &mut [0; 2]);
+            assert_eq!((answer.refusal, answer.place), (0, 0), "{changes:?}");
+        }
+    }
+}
+
 #[test]
 fn refusal_4_in_a_later_place_comes_before_5() {
     refused_with(&[(10, -1), (11, 1), (20, 1001)], (4, 20));

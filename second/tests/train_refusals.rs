@@ -29,6 +29,14 @@ fn set_word(case: &mut TrainCase, place: usize, word: i32) {
     case.line[4 * place..4 * place + 4].copy_from_slice(&word.to_le_bytes());
 }
 
+fn with_words(changes: &[(usize, i32)]) -> TrainCase {
+    with(|case| {
+        for &(place, word) in changes {
+            set_word(case, place, word);
+        }
+    })
+}
+
 /// Holds a case's refusal and place against the ones expected, with a report of
 /// zeros and the bytes past it as before.
 #[track_caller]
@@ -149,6 +157,49 @@ fn refusal_4_at_each_ordinate() {
             set_word(case, 3, word);
         }));
     }
+}
+
+/// Words that are lawful in their low 16 bits: 5 in the first three, then 0, -5
+/// or a limit; and the ends of 16 bits.
+#[test]
+fn refusal_4_tests_the_whole_word() {
+    let lawful_in_16_bits = [65541, -65531, -2147483643, 65536, 65531, 2147483643];
+    let limits_in_16_bits = [70536, 60536, -70536, -60536];
+    let ends = [32767, 32768, -32768, -32769, 65535, -65535, -65536];
+    for place in 0..4 {
+        let words = lawful_in_16_bits.into_iter().chain(limits_in_16_bits);
+        for word in words.chain(ends) {
+            refused(&with_words(&[(place, word)]), (4, place as u64));
+        }
+    }
+}
+
+#[test]
+fn refusal_4_of_two_wide_words_gives_the_lower_place() {
+    refused(&with_words(&[(0, 65541), (1, 65541)]), (4, 0));
+    refused(&with_words(&[(1, -65531), (2, 65541)]), (4, 1));
+    refused(&with_words(&[(2, -2147483643), (3, 65541)]), (4, 2));
+    // One of the two is outside in its low 16 bits as well.
+    refused(&with_words(&[(1, 65541), (3, 5001)]), (4, 1));
+    refused(&with_words(&[(1, 5001), (3, 65541)]), (4, 1));
+}
+
+/// 65541 and -65531 are 5 in their low 16 bits, 65531 and -65541 are -5.
+#[test]
+fn refusal_4_of_a_wide_word_comes_before_5() {
+    // The other piece crosses zero.
+    refused(&with_words(&[(0, -1), (1, 1), (2, 65541)]), (4, 2));
+    refused(&with_words(&[(1, 65541), (2, 1), (3, -1)]), (4, 1));
+    // The whole word crosses, and its low 16 bits do too.
+    refused(&with_words(&[(0, 65541), (1, -5)]), (4, 0));
+    refused(&with_words(&[(2, -5), (3, 65541)]), (4, 3));
+    // The low 16 bits cross, the whole word doesn't.
+    refused(&with_words(&[(0, -65531), (1, -5)]), (4, 0));
+    refused(&with_words(&[(2, 5), (3, 65531)]), (4, 3));
+    // The whole word crosses, the low 16 bits don't.
+    refused(&with_words(&[(0, -65531), (1, 5)]), (4, 0));
+    refused(&with_words(&[(2, -5), (3, 65531)]), (4, 3));
+    refused(&with_words(&[(2, 65536), (3, -5)]), (4, 2));
 }
 
 #[test]
