@@ -26,6 +26,7 @@ pub mod solve;
 pub mod store;
 pub mod traffic;
 pub mod train;
+pub mod wide_words;
 pub mod words;
 
 pub use account::{Account, Answer};
