@@ -224,6 +224,21 @@ static void refusals(void) {
   call_changed("an effect named twice", RECORDS_AT + 2, 2, HNHO_EFFECT_TWICE, ROWS_AT);
 }
 
+/* Ordinates that are 5 in their low 16 bits: 5 + 2^16, 5 - 2^16 and, as a signed word, 5 + 2^31. */
+static void wide_ordinates(void) {
+  static const int32_t wide[] = {65541, -65531, INT32_MIN + 5};
+  size_t i;
+  for (i = 0; i < sizeof wide / sizeof *wide; i++) {
+    call_changed("a wide word, the first left ordinate", 10, wide[i], HNHO_ORDINATE_LIMIT, 10);
+    call_changed("a wide word, the first right ordinate", 11, wide[i], HNHO_ORDINATE_LIMIT, 11);
+    call_changed("a wide word, a left ordinate", 30, wide[i], HNHO_ORDINATE_LIMIT, 30);
+    call_changed("a wide word, the last right ordinate", 49, wide[i], HNHO_ORDINATE_LIMIT, 49);
+    call_changed("a wide word, the first transverse ordinate", TRANSVERSE_AT, wide[i], HNHO_ORDINATE_LIMIT, TRANSVERSE_AT);
+    call_changed("a wide word, a transverse ordinate", TRANSVERSE_AT + 9, wide[i], HNHO_ORDINATE_LIMIT, TRANSVERSE_AT + 9);
+    call_changed("a wide word, the last transverse ordinate", TRANSVERSE_AT + 18, wide[i], HNHO_ORDINATE_LIMIT, TRANSVERSE_AT + 18);
+  }
+}
+
 /* The header's reader against numbers of both signs. */
 static void number_reader(void) {
   static const uint8_t bytes[] = {
@@ -332,6 +347,7 @@ int main(int argc, char **argv) {
   account_lengths();
   patch_lengths();
   refusals();
+  wide_ordinates();
   printf("host_edges: %d calls answered as due\n", calls);
   return 0;
 }

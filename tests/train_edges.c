@@ -462,6 +462,29 @@ static void ordinate_limits(void) {
   call(HNHO_ORDINATE_LIMIT, 1999);
 }
 
+/* Ordinates that are 5 in their low 16 bits: 5 + 2^16, 5 - 2^16 and, as a signed word, 5 + 2^31; with another of no sign and of
+ * either sign at the other end of the piece. */
+static void wide_ordinates(void) {
+  static const int32_t wide[] = {65541, -65531, INT32_MIN + 5}, beside[] = {0, 5, -5};
+  size_t i, j, piece;
+  given_a_train("a wide word");
+  for (piece = 0; piece < 3; piece++)
+    for (i = 0; i < 3; i++)
+      for (j = 0; j < 3; j++) {
+        level_line(3, 0);
+        the.ordinates[2 * piece] = wide[i];
+        the.ordinates[2 * piece + 1] = beside[j];
+        call(HNHO_ORDINATE_LIMIT, 2 * piece);
+        the.ordinates[2 * piece] = beside[j];
+        the.ordinates[2 * piece + 1] = wide[i];
+        call(HNHO_ORDINATE_LIMIT, 2 * piece + 1);
+      }
+  given("two wide words", 10, WORDS(1, 1, 1, -65531, 65541, 1), AXLES({1, 0}));
+  call(HNHO_ORDINATE_LIMIT, 3);
+  given("a piece of two signs, then a wide word", 10, WORDS(1, -1, 1, 1, 1, 65541), AXLES({1, 0}));
+  call(HNHO_ORDINATE_LIMIT, 5);
+}
+
 static void crossing_pieces(void) {
   static const int32_t crossing[][2] = {{1, -1}, {-1, 1}, {5000, -5000}, {-5000, 5000}, {1, -5000}, {-1, 5000}};
   static const int32_t lawful[][2] = {{0, -1}, {-1, 0}, {0, 1}, {1, 0}, {1, 1}, {-1, -1}, {0, 0}};
@@ -664,6 +687,7 @@ static void beside_fences(void) {
     call(HNHO_HEADER_LIMIT, 0);
   }
   ordinate_limits();
+  wide_ordinates();
   crossing_pieces();
   axles_at_fault();
 }
@@ -705,6 +729,7 @@ int main(void) {
   null_pointers();
   arguments();
   ordinate_limits();
+  wide_ordinates();
   crossing_pieces();
   loads();
   distances();
