@@ -1,19 +1,13 @@
-use mathlib.Core.Path.{_≡_, refl, sym}
-use mathlib.Core.Bool.{true, false, or-false}
-use native.Mathlib.Omega.{arith}
+use mathlib.Core.Path.{refl, sym}
+use mathlib.Core.Bool.{or-false}
 use lib.Dec.{lit<}
-use lib.IntN.{ℤ, pos}
+use lib.IntN.{pos}
 use lib.Signed.{ltZ}
 use mir.Syntax.{w64}
-use Rattle.exact.proofs.Bridge.{by-test}
-use Rattle.exact.proofs.Tests.{lt-is}
+use Rattle.exact.proofs.Tests.{lt-one-way}
 use Rattle.exact.proofs.Held.{any, lit, lt-yes, lt-no}
 use Rattle.ordinates.proofs.crosses.Statement.{statement}
 use Rattle.ordinates.proofs.crosses.Tie as tie
-
--- a number above 0 is not below it
-not-below : (z : ℤ) → ltZ (pos 0) z ≡ true → ltZ z (pos 0) ≡ false
-not-below z e = by-test (ltZ z (pos 0)) (λ t. t ≡ false) (λ t. absurd (omega (arith, lt-is (pos 0) z e, lt-is z (pos 0) t))) (λ _. refl)
 
 returns : tie.Need-returns
 returns c =
@@ -21,7 +15,7 @@ returns c =
     let X = any (s .fits .x) in
     let Y = any (s .fits .y) in
     let above = lt-yes (lit w64 0 (lit< tt)) X (c .if1 .taken) in
-    rw (Y .is, above, not-below (s .args .x) above) (sym (or-false (ltZ (s .args .y) (pos 0))))
+    rw (Y .is, above, lt-one-way (pos 0) (s .args .x) above) (sym (or-false (ltZ (s .args .y) (pos 0))))
 
 returns-2 : tie.Need-returns-2
 returns-2 c =
