@@ -1,17 +1,15 @@
--- The best rank: it is a natural number, and the stand of its place has the sense's best pair.
+-- The best rank: it is within its bound, and the stand of its place has the sense's best pair.
 use mathlib.Core.Path.{_≡_, sym, _∙_, ap₂, subst}
 use Prim.Native.Nat.{ℕ, _+_, _-_, _*_, _/_, _≤_}
 use native.Mathlib.Omega.{arith}
 use lib.IntN.{ℤ, pos}
-use lib.Signed.{_≤ℤ_}
 use Rattle.exact.specs.Bounds.{Within}
 use Rattle.exact.specs.Questions.{better, NoBetter, extreme}
 use Rattle.exact.specs.declared.Question.{Question}
 use Rattle.exact.specs.declared.Question.the-variants.{Greatest, Least}
 use Rattle.exact.proofs.Bridge.{ℕ→≤, subbed, up-neg, dn-neg}
 use Rattle.exact.proofs.Extremes.{no-better-trans, no-better-antisym, better-left, better-right, better-least, extreme-bounds, extreme-least, Met, extreme-met}
-use Rattle.exact.proofs.Order.{pos-nonneg}
-use Rattle.exact.proofs.Ring.{_⊕_, _⊗_, lit, _≼_, _⇒_, linear}
+use Rattle.exact.proofs.Ring.{_⊕_, _⊗_, neg, lit, _≼_, _⇒_, linear}
 use Rattle.magnitudes.specs.Magnitudes.{pairMost}
 use Rattle.model.specs.Job.{InfluenceLine}
 use Rattle.model.specs.Line.{axleSpacing, station, bestPair}
@@ -19,9 +17,9 @@ use Rattle.model.specs.Answered.{PositionRight}
 use Rattle.model.specs.declared.Sense.{Sense}
 use Rattle.model.specs.declared.Side.{Side}
 use Rattle.model.specs.declared.Side.the-variants.{Left, Right}
-use Rattle.pair.specs.PairPlaces.{pairAt, sideAt, placed, standOf, rankOf, bestRank}
+use Rattle.pair.specs.PairPlaces.{pairAt, sideAt, placed, standOf, rankOf, rankMost, bestRank}
 use Rattle.pair.specs.declared.Stand.{Stand}
-use Rattle.pair.proofs.Places.{even-side, odd-side, rank-natural}
+use Rattle.pair.proofs.Places.{even-side, odd-side, rank-near}
 
 -- the better of the pair's sides at station s
 abbrev pub betterSide : Question → InfluenceLine → ℕ → ℤ
@@ -37,16 +35,16 @@ pub record PairStands (line : InfluenceLine) (last : ℕ) (v : ℤ) (s : Stand) 
 -- the better rank has the better ordinates
 rank-better : (q : Question) (v w : ℤ) (p r : ℕ) → p ≤ 4095 → r ≤ 4095 → NoBetter q (rankOf q v p) (rankOf q w r) → NoBetter q v w
 rank-better Greatest v w p r k l e =
-    linear 4 (λ v w a b. lit 0 ≼ a ⇒ b ≼ lit 4095 ⇒ lit 4096 ⊗ (lit 10000 ⊕ v) ⊕ a ≼ lit 4096 ⊗ (lit 10000 ⊕ w) ⊕ b ⇒ v ≼ w) v w (pos (4095 - p)) (pos (4095 - r)) (omega arith) (ℕ→≤ (omega arith)) (ℕ→≤ (omega arith)) e
+    linear 4 (λ v w a b. a ≼ lit 4095 ⇒ lit 0 ≼ b ⇒ lit 65536 ⊗ v ⊕ neg a ≼ lit 65536 ⊗ w ⊕ neg b ⇒ v ≼ w) v w (pos p) (pos r) (omega arith) (ℕ→≤ (omega arith)) (ℕ→≤ (omega arith)) e
 rank-better Least v w p r k l e =
-    linear 4 (λ v w a b. a ≼ lit 4095 ⇒ lit 0 ≼ b ⇒ lit 4096 ⊗ (lit 10000 ⊕ w) ⊕ b ≼ lit 4096 ⊗ (lit 10000 ⊕ v) ⊕ a ⇒ w ≼ v) v w (pos p) (pos r) (omega arith) (ℕ→≤ (omega arith)) (ℕ→≤ (omega arith)) e
+    linear 4 (λ v w a b. a ≼ lit 4095 ⇒ lit 0 ≼ b ⇒ lit 65536 ⊗ w ⊕ b ≼ lit 65536 ⊗ v ⊕ a ⇒ w ≼ v) v w (pos p) (pos r) (omega arith) (ℕ→≤ (omega arith)) (ℕ→≤ (omega arith)) e
 
--- the best rank is a natural number, as every rank is
-pub best-natural : (q : Question) (f : ℕ → ℤ) (m : ℕ) → ((p : ℕ) → Within 10000 (f p)) → pos 0 ≤ℤ bestRank q f m
+-- the best rank is within its bound, as every rank is
+pub best-near : (q : Question) (f : ℕ → ℤ) (m : ℕ) → m ≤ 4095 → ((p : ℕ) → Within pairMost (f p)) → Within rankMost (bestRank q f m)
 unfolding bestRank
-best-natural q f m near =
+best-near q f m few near =
     let met = extreme-met q m (λ p. rankOf q (f p) p) in
-    subst (λ (z : ℤ). pos 0 ≤ℤ z) (sym (rank-natural q (f (met .who)) (met .who) (near (met .who))) ∙ met .its) (pos-nonneg _)
+    subst (Within rankMost) (met .its) (rank-near q (f (met .who)) (met .who) (near (met .who)) (omega (arith, met .below)))
 
 side-bound : (q : Question) (line : InfluenceLine) (s : ℕ) (side : Side) → NoBetter q (pairAt line s side) (betterSide q line s)
 side-bound q line s Left = better-left q (pairAt line s Left) (pairAt line s Right)

@@ -13,6 +13,7 @@ use Rattle.model.specs.Answered.{PositionRight}
 use Rattle.model.specs.declared.Sense.{Sense}
 use Rattle.model.specs.declared.Sense.the-variants.{Raising, Lowering}
 use Rattle.pair.specs.PairPlaces.{placed, bestRank}
+use Rattle.line.specs.declared.pieces.Areas.{Areas}
 use Rattle.line.specs.declared.effect.Sought.{Sought}
 use Rattle.line.specs.declared.effect.Senses.{Senses}
 
@@ -23,6 +24,11 @@ loadedSum sense p = if eqb (patchByte p) (loadedByte sense) then endSum p else p
 -- twice the line's area over a sense's whole pieces, in dm·U: h times (a + b) each
 unfoldable pub doubleArea : InfluenceLine → Sense → ℤ
 doubleArea line sense = pos (line .h) *ℤ sumTo (line .pieces) (λ i. loadedSum sense (line .piece i))
+
+-- a sense's area
+abbrev pub areaFor : Sense → Areas → ℤ
+areaFor Raising a = a .raising
+areaFor Lowering a = a .lowering
 
 -- what is sought is near enough to 0 to go on into arithmetic
 pub record SoughtNear (s : Sought) : Type 0 where

@@ -14,12 +14,13 @@ ghost use Rattle.model.specs.Job.{InfluenceLine};
 ghost use Rattle.model.specs.Decode.{influenceLine};
 ghost use Rattle.model.specs.Line.{sought as soughtBy};
 ghost use Rattle.pair.specs.LineFits.{LineFits};
+ghost use Rattle.pair.specs.PairPlaces.{rankMost};
 ghost use Rattle.line.specs.Sought.{Found, SoughtNear, SoughtRight, SensesRight};
 
 // Of a sense: twice the line's area over the pieces that it loads, in dm·U; its best pair of ordinates, and the pair's position.
 pub struct Sought {
     pub area: i64,
-    pub pair: i64,
+    pub pair: i16,
     pub position: Position,
 }
 
@@ -35,7 +36,7 @@ fn question(sense: Sense) -> Question
 
 // What a sense seeks, by its area and the best rank of its question.
 fn sought_at(sense: Sense, area: i64, rank: i32, h: usize) -> Sought
-    requires { ⌜ (1 ≤ h) × Within areaMost area × (pos 0 ≤ℤ rank) ⌝ }
+    requires { ⌜ (1 ≤ h) × Within areaMost area × Within rankMost rank ⌝ }
     ensures { λ r. ⌜ ((line : InfluenceLine) → line .h ≡ h → Found line sense area rank → SoughtRight line sense r) ⌝ }
 {
     let stand = pair::stand_of(question(sense), rank);
@@ -64,11 +65,10 @@ pub fn seek(line: &[u8], h: usize, n: usize) -> Senses
     ensures { λ r. ⌜ SensesRight (influenceLine (now (line .entry)) h n) r ⌝ }
 {
     let ranks = pair::best_ranks(line, h, n);
-    let raised = pieces::double_area(line, h, n, Sense::Raising);
-    let lowered = pieces::double_area(line, h, n, Sense::Lowering);
+    let areas = pieces::double_areas(line, h, n);
     Senses {
-        raising: sought_at(Sense::Raising, raised, ranks.greatest, h),
-        lowering: sought_at(Sense::Lowering, lowered, ranks.least, h),
+        raising: sought_at(Sense::Raising, areas.raising, ranks.greatest, h),
+        lowering: sought_at(Sense::Lowering, areas.lowering, ranks.least, h),
     }
 }
 
@@ -78,5 +78,5 @@ pub(crate) fn effect(uniform: i64, axle: i64, s: Sought) -> i64
     requires { ⌜ ((pos 0 ≤ℤ uniform) × Within 100 uniform) × ((pos 0 ≤ℤ axle) × Within 10000 axle) ⌝ }
     ensures { λ r. ⌜ (r ≡ uniform *ℤ s .area +ℤ axle *ℤ s .pair) × Within (up uniform * areaMost + up axle * pairMost) r ⌝ }
 {
-    uniform * s.area + axle * s.pair
+    uniform * s.area + axle * (s.pair as i64)
 }

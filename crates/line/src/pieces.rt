@@ -7,17 +7,19 @@ ghost use lib.ListN.{length, drop};
 ghost use Rattle.exact.specs.Bounds.{Within};
 ghost use Rattle.magnitudes.specs.Magnitudes.{pairMost, areaMost};
 ghost use Rattle.model.specs.Decode.{pieceAt, influenceLine};
+ghost use Rattle.model.specs.declared.Sense.{Sense};
 ghost use Rattle.model.specs.Line.{endSum, patchByte, patchBytes, loadedByte};
 ghost use Rattle.pair.specs.LineFits.{LineFits};
 ghost use Rattle.line.specs.PieceFits.{PieceFits};
-ghost use Rattle.line.specs.Sought.{loadedSum, doubleArea};
+ghost use Rattle.line.specs.Sought.{loadedSum, doubleArea, areaFor};
 
 // Piece i's ordinate sum a + b.
-fn end_sum(line: &[u8], i: usize) -> i32
+fn end_sum(line: &[u8], i: usize) -> i16
     requires { ⌜ PieceFits (now line) i ⌝ }
     ensures { λ r. ⌜ (r ≡ endSum (pieceAt (now (line .entry)) i)) × Within pairMost r ⌝ }
 {
-    pair::ordinate(line, model::PIECE_WORDS * i) + pair::ordinate(line, model::PIECE_WORDS * i + 1)
+    words::ordinate(line, model::PIECE_WORDS * i)
+        + words::ordinate(line, model::PIECE_WORDS * i + 1)
 }
 
 // Piece i's patch byte.
@@ -26,11 +28,11 @@ fn patch_byte(line: &[u8], i: usize) -> u8
     ensures { λ r. ⌜ r ≡ patchByte (pieceAt (now (line .entry)) i) ⌝ }
 {
     let sum = end_sum(line, i);
-    if 0 < sum {
-        return 1;
-    }
     if sum < 0 {
         return 2;
+    }
+    if 0 < sum {
+        return 1;
     }
     0
 }
@@ -46,7 +48,7 @@ fn loaded_byte(sense: Sense) -> u8
 }
 
 // Piece i's ordinate sum where an element of the sense loads it, else 0.
-fn loaded_sum(line: &[u8], i: usize, sense: Sense) -> i32
+fn loaded_sum(line: &[u8], i: usize, sense: Sense) -> i16
     requires { ⌜ PieceFits (now line) i ⌝ }
     ensures { λ r. ⌜ (r ≡ loadedSum sense (pieceAt (now (line .entry)) i)) × Within pairMost r ⌝ }
 {
@@ -56,17 +58,28 @@ fn loaded_sum(line: &[u8], i: usize, sense: Sense) -> i32
     0
 }
 
-// Twice the line's area over the pieces that an element of the sense loads, in dm·U: n pieces of h dm.
-pub(crate) fn double_area(line: &[u8], h: usize, n: usize, sense: Sense) -> i64
+// Twice the line's area over the pieces that each sense loads, in dm·U.
+pub struct Areas {
+    pub raising: i64,
+    pub lowering: i64,
+}
+
+// Both of a line of n pieces of h dm.
+pub(crate) fn double_areas(line: &[u8], h: usize, n: usize) -> Areas
     requires { ⌜ LineFits (now line) n ⌝ }
     requires { ⌜ (h ≤ 50) × (n * h ≤ 1000) ⌝ }
-    ensures { λ r. ⌜ (r ≡ doubleArea (influenceLine (now (line .entry)) h n) sense) × Within areaMost r ⌝ }
+    ensures { λ r. ⌜ ((sense : Sense) → (areaFor sense r ≡ doubleArea (influenceLine (now (line .entry)) h n) sense) × Within areaMost (areaFor sense r)) ⌝ }
 {
-    let mut sum: i32 = 0;
+    let mut raised: i32 = 0;
+    let mut lowered: i32 = 0;
     for i in 0..n {
-        sum += loaded_sum(line, i, sense);
+        raised += loaded_sum(line, i, Sense::Raising) as i32;
+        lowered += loaded_sum(line, i, Sense::Lowering) as i32;
     }
-    (h as i64) * (sum as i64)
+    Areas {
+        raising: (h as i64) * (raised as i64),
+        lowering: (h as i64) * (lowered as i64),
+    }
 }
 
 // Writes a byte a piece; later bytes stay.

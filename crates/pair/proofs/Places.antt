@@ -7,7 +7,7 @@ use native.Mathlib.Nat.{div-one, mod-one}
 use native.Mathlib.Decide.{decLe, ℕ-discrete}
 use native.Mathlib.Omega.{arith}
 use lib.Dec.{eqb}
-use lib.IntN.{ℤ, pos, negsuc, _+ℤ_, _*ℤ_}
+use lib.IntN.{ℤ, pos, negsuc, negℤ-negℤ, _+ℤ_, _*ℤ_}
 use lib.Signed.{_≤ℤ_}
 use borrow.Author.Tests.{eq-eqb, ne-eqb, lt-ltb}
 use Rattle.exact.specs.Bounds.{Within}
@@ -16,10 +16,11 @@ use Rattle.exact.specs.Parts.{up}
 use Rattle.exact.specs.Questions.{better, NoBetter}
 use Rattle.exact.specs.declared.Question.{Question}
 use Rattle.exact.specs.declared.Question.the-variants.{Greatest, Least}
-use Rattle.exact.proofs.Bounds.{within-pos, within-add}
+use Rattle.exact.proofs.Bounds.{within-pos, within-neg, within-add, within-mul}
 use Rattle.exact.proofs.Bridge.{ℕ→≤, ≤→ℕ, ℕ→≡, added, subbed}
 use Rattle.exact.proofs.Extremes.{no-better-trans, no-better-antisym, extreme-step, extreme-bounds, extreme-least}
-use Rattle.exact.proofs.Ring.{_⊕_, _⊝_, _⊗_, lit, _≐_, solve}
+use Rattle.exact.proofs.Ring.{_⊕_, _⊝_, _⊗_, neg, lit, _≐_, _≼_, _⇒_, solve, linear}
+use Rattle.magnitudes.specs.Magnitudes.{pairMost}
 use Rattle.words.specs.Words.{wordAt}
 use Rattle.model.specs.Job.{InfluenceLine}
 use Rattle.model.specs.Line.{axleSpacing, along, ordinate, pair, station}
@@ -28,7 +29,7 @@ use Rattle.model.specs.declared.Side.{Side}
 use Rattle.model.specs.declared.Side.the-variants.{Left, Right}
 use Rattle.model.proofs.Signs.{off-left, off-right}
 use Rattle.pair.specs.LineFits.{LineFits}
-use Rattle.pair.specs.PairPlaces.{pairAt, sideAt, placed, turned, rankOf, bestRank, rankFor, RanksRight}
+use Rattle.pair.specs.PairPlaces.{pairAt, sideAt, placed, turned, rankOf, rankMost, bestRank, rankFor, RanksRight}
 use Rattle.pair.specs.declared.Ranks.{Ranks}
 
 -- ---- one axle and the pair, at a station counted as the code counts it
@@ -145,25 +146,36 @@ module _ (s : List ℕ) (h n : ℕ) where
   placed-near fits p = subst (Within 10000) (sym (placed-is p)) (within-add (axle-near fits (p - 2 * d)) (axle-near fits p))
 
 -- ---- ranks
-pub turn-late : (q : Question) (p : ℕ) → p ≤ 4095 → turned q p ≤ 4095
-turn-late Greatest p l = omega arith
-turn-late Least p l = l
+pub turn-back : (q : Question) (x : ℤ) → turned q (turned q x) ≡ x
+turn-back Greatest x = negℤ-negℤ x
+turn-back Least x = refl
 
-pub turn-back : (q : Question) (p : ℕ) → p ≤ 4095 → turned q (turned q p) ≡ p
-turn-back Greatest p l = omega arith
-turn-back Least p l = refl
+-- a turned rank is the turned ordinates and the place
+pub turn-rank : (q : Question) (v : ℤ) (p : ℕ) → turned q (rankOf q v p) ≡ pos 65536 *ℤ turned q v +ℤ pos p
+turn-rank Greatest v p = solve 2 (λ v p. neg (lit 65536 ⊗ v ⊕ neg p) ≐ lit 65536 ⊗ neg v ⊕ p) tt v (pos p)
+turn-rank Least v p = refl
+
+pub turn-near : (q : Question) {m : ℕ} {x : ℤ} → Within m x → Within m (turned q x)
+turn-near Greatest r = within-neg r
+turn-near Least r = r
+
+pub rank-near : (q : Question) (v : ℤ) (p : ℕ) → Within pairMost v → p ≤ 4095 → Within rankMost (rankOf q v p)
+rank-near q v p near few = within-add (within-mul (within-pos 65536 (omega arith)) near) (turn-near q (within-pos 4095 few))
 
 -- ordinates are raised to a natural number
-pub raised : (v : ℤ) → Within 10000 v → pos 10000 +ℤ v ≡ pos (up (pos 10000 +ℤ v))
-raised v near = natural (pos 10000 +ℤ v) (ℕ→≤ (omega (arith, added (pos 10000) v, near .dn≤)))
+pub raised : (v : ℤ) → Within pairMost v → v +ℤ pos 10001 ≡ pos (up (v +ℤ pos 10001))
+raised v near = natural (v +ℤ pos 10001) (ℕ→≤ (omega (arith, added v (pos 10001), near .dn≤)))
   where
     natural : (z : ℤ) → pos 0 ≤ℤ z → z ≡ pos (up z)
     natural (pos k) l = refl
     natural (negsuc k) l = absurd (omega (arith, ≤→ℕ l))
 
--- and so is a rank
-pub rank-natural : (q : Question) (v : ℤ) (p : ℕ) → Within 10000 v → rankOf q v p ≡ pos (4096 * up (pos 10000 +ℤ v) + turned q p)
-rank-natural q v p near = ap (λ (z : ℤ). pos 4096 *ℤ z +ℤ pos (turned q p)) (raised v near)
+-- and so is a turned rank
+pub rank-raised : (q : Question) (v : ℤ) (p : ℕ) → Within pairMost v → turned q (rankOf q v p) +ℤ pos 65536 *ℤ pos 10001 ≡ pos (65536 * up (turned q v +ℤ pos 10001) + p)
+rank-raised q v p near =
+    ap (λ (z : ℤ). z +ℤ pos 65536 *ℤ pos 10001) (turn-rank q v p)
+    ∙ solve 2 (λ w p. lit 65536 ⊗ w ⊕ p ⊕ lit 65536 ⊗ lit 10001 ≐ lit 65536 ⊗ (w ⊕ lit 10001) ⊕ p) tt (turned q v) (pos p)
+    ∙ ap (λ (z : ℤ). pos 65536 *ℤ z +ℤ pos p) (raised (turned q v) (turn-near q near))
 
 -- one place more
 pub ranks-more : (f : ℕ → ℤ) (m : ℕ) {best r : Ranks} {v : ℤ} → ((q : Question) → rankFor q r ≡ better q (rankFor q best) (rankOf q v (m + 1))) → v ≡ f (m + 1) → RanksRight f m best → RanksRight f (m + 1) r
@@ -191,5 +203,5 @@ ranks-skip f m k l start none right q =
     ranks p = rankOf q (f p) p
 
     late : (q : Question) (p : ℕ) → NoBetter q (rankOf q (pos 0) p) (rankOf q (pos 0) 0)
-    late Greatest p = ℕ→≤ (omega arith)
+    late Greatest p = linear 1 (λ p. lit 0 ≼ p ⇒ lit 65536 ⊗ lit 0 ⊕ neg p ≼ lit 65536 ⊗ lit 0 ⊕ neg (lit 0)) (pos p) (omega arith) (ℕ→≤ (omega arith))
     late Least p = ℕ→≤ (omega arith)

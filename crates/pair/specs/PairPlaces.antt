@@ -1,13 +1,14 @@
 -- Where the axle pair stands, and what it counts there. Its places count stations and sides: place p is station p / 2, from the left where p is even.
-use Prim.Native.Nat.{ℕ, _-_, _/_, _%_, _≤_}
+use Prim.Native.Nat.{ℕ, _+_, _-_, _*_, _/_, _%_, _≤_}
 use mathlib.Core.List.{List}
 use mathlib.Core.Path.{_≡_}
-use lib.IntN.{ℤ, pos, _+ℤ_, _*ℤ_}
+use lib.IntN.{ℤ, pos, negℤ, _+ℤ_, _*ℤ_}
 use lib.Dec.{eqb}
 use Rattle.exact.specs.Choice.{if_then_else_}
 use Rattle.exact.specs.Questions.{extreme}
 use Rattle.exact.specs.declared.Question.{Question}
 use Rattle.exact.specs.declared.Question.the-variants.{Greatest, Least}
+use Rattle.magnitudes.specs.Magnitudes.{pairMost}
 use Rattle.words.specs.Words.{wordAt}
 use Rattle.model.specs.Job.{InfluenceLine}
 use Rattle.model.specs.Line.{pair, station}
@@ -35,14 +36,18 @@ placed line p = pairAt line (p / 2) (sideAt p)
 abbrev pub standOf : ℤ → ℕ → Stand
 standOf v p = record { value = v; station = p / 2; side = sideAt p }
 
--- a place in a rank: the lower the better
-abbrev pub turned : Question → ℕ → ℕ
-turned Greatest p = 4095 - p
-turned Least p = p
+-- turned so that for either question the less is the better
+abbrev pub turned : Question → ℤ → ℤ
+turned Greatest x = negℤ x
+turned Least x = x
 
--- ordinates v and their place in one number: of 4096 places the pair has at most 2102
+-- ordinates v and their place in one number, 16 bits each: the better ordinates, at a tie the lower place
 abbrev pub rankOf : Question → ℤ → ℕ → ℤ
-rankOf q v p = pos 4096 *ℤ (pos 10000 +ℤ v) +ℤ pos (turned q p)
+rankOf q v p = pos 65536 *ℤ v +ℤ turned q (pos p)
+
+-- a rank's most, the place being at most 4095: the pair has at most 2102 places
+abbrev pub rankMost : ℕ
+rankMost = 65536 * pairMost + 4095
 
 -- the best rank of places 0 .. m, where place p counts f p
 unfoldable pub bestRank : Question → (ℕ → ℤ) → ℕ → ℤ

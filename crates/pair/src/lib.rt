@@ -4,24 +4,14 @@ use exact::Question;
 use model::Side;
 ghost use mathlib.Core.Path.{_≡_};
 ghost use Prim.Native.Nat.{ℕ, _+_, _-_, _*_, _/_, _≤_, _<_};
-ghost use lib.IntN.{ℤ, pos};
-ghost use lib.Signed.{_≤ℤ_};
+ghost use lib.IntN.{ℤ};
 ghost use Rattle.exact.specs.Bounds.{Within};
 ghost use Rattle.exact.specs.Questions.{better};
 ghost use Rattle.exact.specs.declared.Question.{Question};
-ghost use Rattle.magnitudes.specs.Magnitudes.{ordinateMost, pairMost};
-ghost use Rattle.words.specs.Words.{wordAt};
+ghost use Rattle.magnitudes.specs.Magnitudes.{pairMost};
 ghost use Rattle.model.specs.Decode.{influenceLine};
-ghost use Rattle.pair.specs.LineFits.{WordFits, LineFits};
-ghost use Rattle.pair.specs.PairPlaces.{sideAt, placed, standOf, turned, rankOf, rankFor, RanksRight, countOf, CountFits};
-
-// Word k of the line, an ordinate.
-pub fn ordinate(line: &[u8], k: usize) -> i32
-    requires { ⌜ WordFits (now line) k ⌝ }
-    ensures { λ r. ⌜ (r ≡ wordAt (now (line .entry)) k) × Within ordinateMost r ⌝ }
-{
-    words::word(line, k) as i32
-}
+ghost use Rattle.pair.specs.LineFits.{LineFits};
+ghost use Rattle.pair.specs.PairPlaces.{sideAt, placed, standOf, turned, rankOf, rankMost, rankFor, RanksRight, countOf, CountFits};
 
 // The pair's axles are 50 dm apart: so many pieces.
 pub fn spacing(h: usize) -> usize
@@ -41,32 +31,32 @@ fn places_apart(h: usize) -> usize
 
 // The pair's ordinates, with its station and side.
 pub struct Stand {
-    pub value: i64,
+    pub value: i16,
     pub station: usize,
     pub side: Side,
 }
 
-// A place as a rank has it, or back: the lower place is the better.
-fn turn(q: Question, place: usize) -> usize
-    requires { ⌜ place ≤ 4095 ⌝ }
-    ensures { λ r. ⌜ (r ≡ turned q place) × (r ≤ 4095) ⌝ }
+// A number turned so that for either question the less is the better, or back.
+fn turn(q: Question, x: i32) -> i32
+    requires { ⌜ Within rankMost x ⌝ }
+    ensures { λ r. ⌜ (r ≡ turned q x) × Within rankMost r ⌝ }
 {
     match q {
-        Question::Greatest => 4095 - place,
-        Question::Least => place,
+        Question::Greatest => -x,
+        Question::Least => x,
     }
 }
 
 // Ordinates and their place in one number: the better ordinates, at a tie the lower place, have the better number.
-fn rank(q: Question, v: i32, place: usize) -> i32
+fn rank(q: Question, v: i16, place: usize) -> i32
     requires { ⌜ Within pairMost v × (place ≤ 4095) ⌝ }
-    ensures { λ r. ⌜ (r ≡ rankOf q v place) × Within 82000000 r ⌝ }
+    ensures { λ r. ⌜ (r ≡ rankOf q v place) × Within rankMost r ⌝ }
 {
-    4096 * (10000 + v) + (turn(q, place) as i32)
+    65536 * (v as i32) + turn(q, place as i32)
 }
 
 // A question's best rank with one place more, where the pair counts v.
-fn improved(q: Question, best: i32, v: i32, place: usize) -> i32
+fn improved(q: Question, best: i32, v: i16, place: usize) -> i32
     requires { ⌜ Within pairMost v × (place ≤ 4095) ⌝ }
     ensures { λ r. ⌜ r ≡ better q best (rankOf q v place) ⌝ }
 {
@@ -84,7 +74,7 @@ pub struct Ranks {
 }
 
 // The best ranks with one place more, where the pair counts v.
-fn ranked(best: Ranks, v: i32, place: usize) -> Ranks
+fn ranked(best: Ranks, v: i16, place: usize) -> Ranks
     requires { ⌜ Within pairMost v × (place ≤ 4095) ⌝ }
     ensures { λ r. ⌜ ((q : Question) → rankFor q r ≡ better q (rankFor q best) (rankOf q v place)) ⌝ }
 {
@@ -102,14 +92,14 @@ enum Axles {
 }
 
 // The pair's ordinates with its right axle on word k.
-fn counted(line: &[u8], on: Axles, k: usize) -> i32
+fn counted(line: &[u8], on: Axles, k: usize) -> i16
     requires { ⌜ CountFits (now line) on k ⌝ }
     ensures { λ r. ⌜ (r ≡ countOf (now (line .entry)) on k) × Within pairMost r ⌝ }
 {
     match on {
-        Axles::Ahead => ordinate(line, k),
-        Axles::Both(apart) => ordinate(line, k - apart) + ordinate(line, k),
-        Axles::Behind(apart) => ordinate(line, k - apart),
+        Axles::Ahead => words::ordinate(line, k),
+        Axles::Both(apart) => words::ordinate(line, k - apart) + words::ordinate(line, k),
+        Axles::Behind(apart) => words::ordinate(line, k - apart),
     }
 }
 
@@ -163,14 +153,14 @@ pub fn side_of(place: usize) -> Side
 
 // The stand that a rank stands for.
 pub fn stand_of(q: Question, rank: i32) -> Stand
-    requires { ⌜ pos 0 ≤ℤ rank ⌝ }
-    ensures { λ r. ⌜ ((v : ℤ) (p : ℕ) → Within pairMost v → p ≤ 4095 → rank ≡ rankOf q v p → r ≡ standOf v p) × (r .station ≤ 2047) ⌝ }
+    requires { ⌜ Within rankMost rank ⌝ }
+    ensures { λ r. ⌜ ((v : ℤ) (p : ℕ) → Within pairMost v → p ≤ 4095 → rank ≡ rankOf q v p → r ≡ standOf v p) × (r .station ≤ 32767) ⌝ }
 {
-    let x = rank as usize;
-    let place = turn(q, x % 4096);
+    let x = (turn(q, rank) + 65536 * 10001) as usize;
+    let place = x % 65536;
     let side = side_of(place);
     Stand {
-        value: ((x / 4096) as i64) - 10000,
+        value: turn(q, ((x / 65536) as i32) - 10001) as i16,
         station: place / 2,
         side,
     }

@@ -10,6 +10,7 @@ use Rattle.exact.proofs.Held.{back}
 use Rattle.model.specs.Decode.{influenceLine}
 use Rattle.pair.specs.LineFits.{WordFits}
 use Rattle.pair.specs.PairPlaces.{placed, RanksRight}
+use Rattle.pair.proofs.Fitting.{line-word}
 use Rattle.pair.proofs.Places.{placed-ahead, placed-both, placed-behind, placed-start, placed-gap, placed-end, ranks-none, ranks-skip}
 use borrow.Author.Needs.{needs}
 use Rattle.pair.proofs.best_ranks.Statement.{statement}
@@ -47,7 +48,7 @@ module _ (c : tie.After-rank2) where
   edged = cut .lesser .ensures
 
   word : (k : ℕ) → k < 2 * n → WordFits s k
-  word k l = let f = st .pre .0 in record { room = omega (arith, f .room); near = f .near k l }
+  word = line-word (st .pre .0)
 
   start : f 0 ≡ pos 0
   start = placed-start s h n

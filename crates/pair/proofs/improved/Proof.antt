@@ -8,7 +8,7 @@ use mir.Val.{ofZ}
 use Rattle.exact.specs.Questions.{beats}
 use Rattle.exact.proofs.Extremes.{beats-yes, beats-no}
 use Rattle.exact.proofs.Held.{Held, any, got, retold, cast, cast!, beats-held}
-use Rattle.pair.specs.PairPlaces.{rankOf}
+use Rattle.pair.specs.PairPlaces.{rankOf, rankMost}
 use borrow.Author.Needs.{needs}
 use Rattle.pair.proofs.improved.Statement.{statement}
 use Rattle.pair.proofs.improved.Tie as tie
@@ -21,7 +21,7 @@ module _ (c : tie.After-rank) where
   abbrev new : ℤ
   new = rankOf (st .args .q) (st .args .v) (st .args .place)
 
-  next : Held w32 (ofZ w32 (c .rank .result)) 82000000 new
+  next : Held w32 (ofZ w32 (c .rank .result)) rankMost new
   next = retold (got w32 (c .rank .ok) (c .rank .ensures)) (ap (λ (v : ℤ). rankOf (st .args .q) v (st .args .place)) (any (st .fits .v) .is))
 
   so-far : Held w32 (ofZ w32 (st .args .best)) (2 ^ 31) (st .args .best)

@@ -1,6 +1,6 @@
 use mathlib.Core.Path.{_≡_, _∙_, ap₂}
 use lib.IntN.{ℤ}
-use mir.Syntax.{w32}
+use mir.Syntax.{w16, w32}
 use mir.Val.{SFits, toZ, ofZ}
 use Rattle.exact.specs.Questions.{better}
 use Rattle.exact.specs.declared.Question.{Question}
@@ -14,7 +14,7 @@ use Rattle.pair.proofs.ranked.Tie as tie
 module _ (s : tie.Start) (q : Question) where
   -- by rank and ordinates as they were passed
   abbrev passed : ℤ
-  passed = better q (toZ w32 (ofZ w32 (rankFor q (s .args .best)))) (rankOf q (toZ w32 (ofZ w32 (s .args .v))) (s .args .place))
+  passed = better q (toZ w32 (ofZ w32 (rankFor q (s .args .best)))) (rankOf q (toZ w16 (ofZ w16 (s .args .v))) (s .args .place))
 
   right : {r : ℤ} → SFits w32 (rankFor q (s .args .best)) → r ≡ passed → r ≡ better q (rankFor q (s .args .best)) (rankOf q (s .args .v) (s .args .place))
   right f e = e ∙ ap₂ (λ (r v : ℤ). better q r (rankOf q v (s .args .place))) (any f .is) (any (s .fits .v) .is)

@@ -2,7 +2,7 @@ use mathlib.Core.Path.{_≡_, sym, _∙_, subst}
 use Prim.Native.Nat.{ℕ, _+_, _-_, _≤_, _<_}
 use native.Mathlib.Omega.{arith}
 use lib.IntN.{ℤ}
-use mir.Syntax.{w32}
+use mir.Syntax.{w16}
 use Rattle.exact.proofs.Held.{told, Kept, got}
 use Rattle.pair.specs.PairPlaces.{RanksRight, countOf}
 use Rattle.pair.proofs.Places.{ranks-more}
@@ -31,8 +31,8 @@ module _ (c : tie.After-counted Inv-loop μ-loop) where
   late : k + 1 ≤ 4095
   late = omega (arith, st .pre .1)
 
-  abbrev ordinates : Kept w32 10000 (countOf (st .args .line .now) (st .args .on) k)
-  ordinates = (_, got w32 (c .counted .ok) (c .counted .ensures))
+  abbrev ordinates : Kept w16 10000 (countOf (st .args .line .now) (st .args .on) k)
+  ordinates = (_, got w16 (c .counted .ok) (c .counted .ensures))
 
 loop-again : tie.Need-loop-again Inv-loop μ-loop
 loop-again c =

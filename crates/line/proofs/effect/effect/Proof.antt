@@ -2,10 +2,10 @@ use Prim.Native.Nat.{_*_}
 use native.Mathlib.Omega.{arith}
 use lib.Dec.{lit<}
 use lib.IntN.{_*ℤ_}
-use mir.Syntax.{w64}
+use mir.Syntax.{w16, w64}
 use Rattle.exact.specs.Parts.{up}
 use Rattle.exact.proofs.Bounds.{within-up}
-use Rattle.exact.proofs.Held.{told, Kept, arg, known, plus, plus!, times, times! }
+use Rattle.exact.proofs.Held.{told, Kept, arg, known, cast, cast!, plus, plus!, times, times! }
 use Rattle.line.proofs.effect.effect.Statement.{statement}
 use Rattle.line.proofs.effect.effect.Tie as tie
 
@@ -22,8 +22,11 @@ module _ (s : tie.Start) where
   abbrev axle : Kept w64 (up (s .args .axle)) (s .args .axle)
   axle = (_, arg (s .fits .axle) (within-up (s .args .axle) (s .pre .1 .1 .0)))
 
+  abbrev ordinates : Kept w16 10000 (s .args .s .pair)
+  ordinates = (_, known w16 (s .pre .0 .pair) (lit< tt))
+
   abbrev pair : Kept w64 10000 (s .args .s .pair)
-  pair = (_, known w64 (s .pre .0 .pair) (lit< tt))
+  pair = (_, cast (ordinates .1) w64 (lit< tt))
 
   abbrev axles : Kept w64 (up (s .args .axle) * 10000) (s .args .axle *ℤ s .args .s .pair)
   axles = (_, times (axle .1) (pair .1) (omega arith))
@@ -41,4 +44,4 @@ returns : tie.Need-returns
 returns c = let s = c .before .before .before .before in told (plus (load s .1) (axles s .1) (omega arith))
 
 pub effect-spec : {M : Type 1} → statement M
-effect-spec = tie.close (tie.spec mul-result mul-result-2 add-result returns)
+effect-spec = tie.close (tie.spec mul-result (λ c. cast! (ordinates (c .before .before .before .before) .1) w64 (lit< tt)) mul-result-2 add-result returns)

@@ -1,22 +1,22 @@
 use mathlib.Core.Path.{_≡_, refl, sym, _∙_, subst}
-use Prim.Native.Nat.{ℕ, _+_, _*_}
+use Prim.Native.Nat.{ℕ, _+_, _*_, _≤_}
 use native.Mathlib.Nat.{div-le-self}
 use native.Mathlib.Omega.{arith}
-use lib.IntN.{ℤ, pos}
-use lib.Signed.{_≤ℤ_}
+use lib.Dec.{lit<}
+use lib.IntN.{ℤ}
 use mir.Syntax.{w32, w64}
 use mir.Val.{SFits, toZ, ofZ}
 use Rattle.exact.specs.Bounds.{Within}
-use Rattle.exact.proofs.Held.{told, any, got}
+use Rattle.exact.proofs.Held.{Held, told, any, known, retold}
 use Rattle.model.specs.Job.{InfluenceLine}
 use Rattle.model.specs.Decode.{influenceLine}
 use Rattle.model.specs.Line.{axleSpacing, sought}
 use Rattle.model.specs.declared.Sense.{Sense}
 use Rattle.model.specs.declared.Sense.the-variants.{Raising, Lowering}
-use Rattle.pair.specs.PairPlaces.{placed, rankFor}
+use Rattle.pair.specs.PairPlaces.{placed, rankFor, rankMost}
 use Rattle.pair.proofs.Places.{placed-near}
-use Rattle.line.specs.Sought.{doubleArea, Found}
-use Rattle.line.proofs.Leading.{best-natural}
+use Rattle.line.specs.Sought.{doubleArea, areaFor, Found}
+use Rattle.line.proofs.Leading.{best-near}
 use borrow.Author.Needs.{needs}
 use Rattle.line.proofs.effect.seek.Statement.{statement}
 use Rattle.line.proofs.effect.seek.Tie as tie
@@ -35,43 +35,42 @@ module _ (c : tie.After-best-ranks) where
   abbrev rank : Sense → ℤ
   rank sense = toZ w32 (ofZ w32 (rankFor (sought sense) (c .best-ranks .result)))
 
-  natural : (sense : Sense) → SFits w32 (rankFor (sought sense) (c .best-ranks .result)) → pos 0 ≤ℤ rank sense
-  natural sense f = subst (λ (z : ℤ). pos 0 ≤ℤ z) (sym (any f .is ∙ c .best-ranks .ensures (sought sense))) (best-natural (sought sense) (placed line) (2 * (line .pieces + axleSpacing line) + 1) near)
+  few : line .pieces + axleSpacing line ≤ 1050
+  few = omega (arith, st .pre .0 .few, div-le-self 50 (st .args .h))
+
+  bounded : (sense : Sense) → SFits w32 (rankFor (sought sense) (c .best-ranks .result)) → Within rankMost (rank sense)
+  bounded sense f = subst (Within rankMost) (sym (any f .is ∙ c .best-ranks .ensures (sought sense))) (best-near (sought sense) (placed line) (2 * (line .pieces + axleSpacing line) + 1) (omega (arith, few)) near)
 
   found : (sense : Sense) {a : ℤ} → SFits w32 (rankFor (sought sense) (c .best-ranks .result)) → a ≡ doubleArea line sense → Found line sense a (rank sense)
-  found sense f e = record { area = e; rank = any f .is ∙ c .best-ranks .ensures (sought sense); few = omega (arith, st .pre .0 .few, div-le-self 50 (st .args .h)); near = near }
+  found sense f e = record { area = e; rank = any f .is ∙ c .best-ranks .ensures (sought sense); few = few; near = near }
 
--- what is asked of either sense's numbers
-asked : (c : tie.After-double-area2) → (Within 10000000 (toZ w64 (ofZ w64 (c .before .double-area .result))) × Within 10000000 (toZ w64 (ofZ w64 (c .double-area2 .result))))
-asked c = (told (got w64 (c .before .double-area .ok) (c .before .double-area .ensures)) .1, told (got w64 (c .double-area2 .ok) (c .double-area2 .ensures)) .1)
+-- a sense's area, as it is passed
+area : (c : tie.After-double-areas) (sense : Sense) → Held w64 (ofZ w64 (areaFor sense (c .double-areas .result))) 10000000 (doubleArea (line (c .before)) sense)
+area c sense = let e = c .double-areas .ensures sense in retold (known w64 (e .1) (lit< tt)) (e .0)
 
 sought-at-requires : tie.Need-sought-at-requires
 sought-at-requires c κs =
-    let d = c .before .before .before in
-    let up = asked (c .before) .0 in
-    let down = asked (c .before) .1 in
-    let high = natural d Raising (search needs) in
-    let low = natural d Lowering (search needs) in
-    (st d .pre .1 .0, search needs, search needs)
+    let d = c .before .before in
+    let up = told (area d Raising) .1 in
+    let down = told (area d Lowering) .1 in
+    let high = bounded (d .before) Raising (search needs) in
+    let low = bounded (d .before) Lowering (search needs) in
+    (st (d .before) .pre .1 .0, search needs, search needs)
 
 sought-at-requires-2 : tie.Need-sought-at-requires-2
 sought-at-requires-2 c κs =
     let d = c .before .before .before .before .before in
-    let up = asked (c .before .before .before) .0 in
-    let down = asked (c .before .before .before) .1 in
-    let high = natural d Raising (search needs) in
-    let low = natural d Lowering (search needs) in
-    (st d .pre .1 .0, search needs, search needs)
+    let up = told (area d Raising) .1 in
+    let down = told (area d Lowering) .1 in
+    let high = bounded (d .before) Raising (search needs) in
+    let low = bounded (d .before) Lowering (search needs) in
+    (st (d .before) .pre .1 .0, search needs, search needs)
 
 returns : tie.Need-returns
-returns c Raising =
-    let a = c .before .before .before .before .before in
-    c .before .before .sought-at .ensures (line (a .before)) refl (found (a .before) Raising (search needs) (got w64 (a .double-area .ok) (a .double-area .ensures) .is))
-returns c Lowering =
-    let a = c .before .before .before .before in
-    c .sought-at2 .ensures (line (a .before .before)) refl (found (a .before .before) Lowering (search needs) (got w64 (a .double-area2 .ok) (a .double-area2 .ensures) .is))
+returns c Raising = let d = c .before .before .before .before .before .before in c .before .before .before .sought-at .ensures (line (d .before)) refl (found (d .before) Raising (search needs) (area d Raising .is))
+returns c Lowering = let d = c .before .before .before .before .before .before in c .sought-at2 .ensures (line (d .before)) refl (found (d .before) Lowering (search needs) (area d Lowering .is))
 
 pub seek-spec : {M : Type 1} → statement M
 seek-spec =
     tie.close
-    (tie.spec (λ c κs. search needs) (λ c κs. search needs) (λ c κs. search needs) sought-at-requires sought-at-requires-2 returns)
+    (tie.spec (λ c κs. search needs) (λ c κs. search needs) sought-at-requires sought-at-requires-2 returns)

@@ -3,7 +3,7 @@ use Prim.Native.Nat.{ℕ, _+_, _/_, _^_}
 use native.Mathlib.Omega.{arith}
 use lib.Dec.{lit<}
 use lib.IntN.{ℤ, pos, _-ℤ_}
-use mir.Syntax.{w32, w64}
+use mir.Syntax.{w16, w32, w64}
 use mir.Val.{ofZ}
 use Rattle.exact.specs.Bounds.{Within}
 use Rattle.exact.specs.Questions.{extreme}
@@ -30,8 +30,8 @@ module _ (c : tie.After-spacing) where
   abbrev stand : Stand
   stand = at .stand-of .result
 
-  abbrev right : Kept w64 2047 (pos (stand .station))
-  right = (_, nat w64 2047 (at .stand-of .ensures .1) (omega (arith, at .stand-of .ensures .1)))
+  abbrev right : Kept w64 32767 (pos (stand .station))
+  right = (_, nat w64 32767 (at .stand-of .ensures .1) (omega (arith, at .stand-of .ensures .1)))
 
   abbrev apart : Kept w64 50 (pos (c .spacing .result))
   apart = (_, nat w64 50 (c .spacing .ensures .1) (omega arith))
@@ -57,7 +57,7 @@ module _ (c : tie.After-spacing) where
         subst (PairStands line last (extreme q last (betterSide q line))) (sym (at .stand-of .ensures .0 (placed line p) p (found .near p) (omega (arith, found .few, lead .early)) (rank-is (at .before .question .result) (at .before .question .ensures) .is))) (lead .stands)
 
     -- the left axle's station
-    abbrev left : Kept w64 2097 (station line (stand .station))
+    abbrev left : Kept w64 32817 (station line (stand .station))
     left = (_, retold (minus (right .1) (apart .1) (lit< tt)) (ap (λ (k : ℕ). pos (stand .station) -ℤ pos k) (c .spacing .ensures .0 ∙ ap (λ (h : ℕ). 50 / h) (sym same))))
 
 sub-t12 : tie.Need-sub-t12
@@ -69,7 +69,7 @@ returns c line same found =
     let s = st d in
     let f = stands d line same found in
     let area = retold (arg (s .fits .area) (s .pre .1)) (found .area) in
-    let pair = retold (known w64 (subst (Within 10000) (sym (f .value)) (f .near)) (lit< tt)) (f .value) in
+    let pair = retold (known w16 (subst (Within 10000) (sym (f .value)) (f .near)) (lit< tt)) (f .value) in
     record {
       area = area .is;
       pair = pair .is;

@@ -4,28 +4,29 @@ use borrow.Author.Needs.{needs}
 use Prim.Native.Nat.{_+_, _*_}
 use native.Mathlib.Omega.{arith}
 use lib.Dec.{lit<}
-use mir.Syntax.{w32}
+use mir.Syntax.{w16}
 use Rattle.words.specs.Words.{wordAt}
-use Rattle.exact.proofs.Held.{told, Kept, got, plus, plus! }
+use Rattle.exact.proofs.Held.{told, Kept, ret, plus, plus! }
+use Rattle.pair.proofs.Fitting.{word-narrow}
 use Rattle.line.proofs.Fitting.{piece-word}
 use Rattle.line.proofs.pieces.end_sum.Statement.{statement}
 use Rattle.line.proofs.pieces.end_sum.Tie as tie
 
 ordinate-requires : tie.Need-ordinate-requires
-ordinate-requires c κs = piece-word (c .before .pre) _ (omega arith) (omega arith)
+ordinate-requires c κs = word-narrow (piece-word (c .before .pre) _ (omega arith) (omega arith))
 
 ordinate-requires-2 : tie.Need-ordinate-requires-2
-ordinate-requires-2 c κs = piece-word (c .before .before .pre) _ (omega arith) (omega arith)
+ordinate-requires-2 c κs = word-narrow (piece-word (c .before .before .pre) _ (omega arith) (omega arith))
 
 module _ (c : tie.After-ordinate2) where
   abbrev st : tie.Start
   st = c .before .before .before
 
-  abbrev left : Kept w32 5000 (wordAt (st .args .line .now) (size Line * st .args .i))
-  left = (_, got w32 (c .before .ordinate .ok) (c .before .ordinate .ensures))
+  abbrev left : Kept w16 5000 (wordAt (st .args .line .now) (size Line * st .args .i))
+  left = (_, ret w16 (c .before .ordinate .ok) (c .before .ordinate .ensures) (st .pre .near _ (omega arith) (omega arith)))
 
-  abbrev right : Kept w32 5000 (wordAt (st .args .line .now) (size Line * st .args .i + 1))
-  right = (_, got w32 (c .ordinate2 .ok) (c .ordinate2 .ensures))
+  abbrev right : Kept w16 5000 (wordAt (st .args .line .now) (size Line * st .args .i + 1))
+  right = (_, ret w16 (c .ordinate2 .ok) (c .ordinate2 .ensures) (st .pre .near _ (omega arith) (omega arith)))
 
 returns : tie.Need-returns
 returns c = told (plus (left c .1) (right c .1) (lit< tt))

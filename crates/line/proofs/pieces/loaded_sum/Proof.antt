@@ -1,7 +1,7 @@
 use mathlib.Core.Path.{_≡_, refl, sym, _∙_}
 use native.Mathlib.Omega.{arith}
 use borrow.Author.Tests.{eq-eqb, ne-eqb}
-use mir.Syntax.{w32}
+use mir.Syntax.{w16}
 use Rattle.exact.proofs.Bounds.{within-pos}
 use Rattle.exact.proofs.Held.{got, told}
 use Rattle.model.specs.Decode.{pieceAt}
@@ -17,7 +17,7 @@ returns c =
     let l = d .before .loaded-byte .ensures in
     let a = d .before .before .before .before .args in
     let loaded : patchByte (pieceAt (a .line .now) (a .i)) ≡ loadedByte (a .sense) = sym p ∙ d .if1 .taken ∙ l in
-    rw (eq-eqb _ _ loaded) (told (got w32 (c .end-sum .ok) (c .end-sum .ensures)))
+    rw (eq-eqb _ _ loaded) (told (got w16 (c .end-sum .ok) (c .end-sum .ensures)))
 
 returns-2 : tie.Need-returns-2
 returns-2 c =
