@@ -63,11 +63,11 @@ pub struct Sums {
 }
 
 // With one axle more.
-fn added(mode: Mode, s: Sums, load: u32, ordinate: i64) -> Sums
+fn added(mode: Mode, s: Sums, load: u32, ordinate: i16) -> Sums
     requires { ⌜ (load ≤ 400) × Within ordinateMost ordinate × ((q : Question) → Within trainMost (sumFor q s)) ⌝ }
     ensures { λ r. ⌜ ((q : Question) → sumFor q r ≡ sumFor q s +ℤ pos load *ℤ counted mode q ordinate) ⌝ }
 {
-    let x = (load as i64) * ordinate;
+    let x = (load as i64) * (ordinate as i64);
     Sums {
         greatest: s.greatest + counted(mode, Question::Greatest, x),
         least: s.least + counted(mode, Question::Least, x),
@@ -96,8 +96,8 @@ fn with_axle(line: &[u8], n: usize, mode: Mode, sofar: Ends, axle: Axle, less: u
     let left = sofar.left;
     let right = sofar.right;
     Ends {
-        left: added(mode, left, axle.load, words::word(line, p)),
-        right: added(mode, right, axle.load, words::word(line, p + 1)),
+        left: added(mode, left, axle.load, words::ordinate(line, p)),
+        right: added(mode, right, axle.load, words::ordinate(line, p + 1)),
     }
 }
 
