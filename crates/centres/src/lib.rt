@@ -38,7 +38,7 @@ pub struct Centre {
 }
 
 // The transverse ordinate at a centre, d being n g.
-fn ordinate(across: &[u8], d: usize, centre: usize) -> i64
+fn ordinate(across: &[u8], d: usize, centre: usize) -> i32
     requires { ⌜ 0 < d ⌝ }
     requires { ⌜ d ≤ 250 ⌝ }
     requires { ⌜ OrdinatesTo (now across) (centre / d + 1) ⌝ }
@@ -46,7 +46,8 @@ fn ordinate(across: &[u8], d: usize, centre: usize) -> i64
 {
     let m = centre / d;
     let j = centre % d;
-    ((d - j) as i64) * words::word(across, m) + (j as i64) * words::word(across, m + 1)
+    ((d - j) as i32) * (words::ordinate(across, m) as i32)
+        + (j as i32) * (words::ordinate(across, m + 1) as i32)
 }
 
 // The centre at a place if its ordinate beats the best so far, else that.
@@ -58,9 +59,9 @@ fn consider(q: Question, across: &[u8], d: usize, best: Centre, at: usize) -> Ce
     ensures { λ r. ⌜ r ≡ betterCentre q (now (across .entry)) d best at ⌝ }
 {
     let here = ordinate(across, d, at);
-    if exact::beats(q, here, best.ordinate as i64) {
+    if exact::beats(q, here as i64, best.ordinate as i64) {
         return Centre {
-            ordinate: here as i32,
+            ordinate: here,
             at: at as u32,
         };
     }
@@ -77,7 +78,7 @@ fn best(q: Question, across: &[u8], d: usize, lo: usize, hi: usize) -> Centre
     ensures { λ r. ⌜ BestBefore q (now (across .entry)) d lo hi (hi / d + 1) r ⌝ }
 {
     let first = Centre {
-        ordinate: ordinate(across, d, lo) as i32,
+        ordinate: ordinate(across, d, lo),
         at: lo as u32,
     };
     let mut best = consider(q, across, d, first, hi);

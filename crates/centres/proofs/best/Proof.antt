@@ -1,10 +1,9 @@
 use mathlib.Core.Path.{_≡_, subst}
 use Prim.Native.Nat.{ℕ, _+_, _-_, _*_, _/_, _≤_, _<_}
 use native.Mathlib.Omega.{arith}
-use lib.Dec.{lit<}
 use lib.ListN.{length}
-use mir.Syntax.{w32, w64}
-use Rattle.exact.proofs.Held.{got, cast, cast! }
+use mir.Syntax.{w32}
+use Rattle.exact.proofs.Held.{got}
 use Rattle.centres.specs.Transverse.{OrdinatesTo}
 use Rattle.centres.specs.Candidates.{BestBefore}
 use Rattle.centres.proofs.Ordinates.{ordinate-near, ordinates-left, ordinate-between}
@@ -24,9 +23,6 @@ ordinate-requires c κs =
     let s = c .before in
     let a = s .args in
     (s .pre .0, (s .pre .1 .0, ordinates-left (a .across .now) (a .d) (a .lo) (a .hi) (s .pre .0) (s .pre .1 .1 .0) (s .pre .1 .1 .1 .0)))
-
-cast-first : tie.Need-cast-t10 Inv-loop μ-loop
-cast-first c = cast! (got w64 (c .ordinate .ok) (c .ordinate .ensures)) w32 (lit< tt)
 
 consider-requires : tie.Need-consider-requires Inv-loop μ-loop
 consider-requires c κs = let s = c .before .before in (s .pre .0, (s .pre .1 .0, s .pre .1 .1 .1))
@@ -52,7 +48,7 @@ loop-holds c =
     let h = numbers s in (
       omega arith,
       omega arith,
-      rw (c .consider .ensures, cast (got w64 (o .ok) (o .ensures)) w32 (lit< tt) .is)
+      rw (c .consider .ensures, got w32 (o .ok) (o .ensures) .is)
           (limits-tried (a .q) (a .across .now) (a .d) (a .lo) (a .hi) p l
           (ordinate-near (a .across .now) (a .d) (a .lo) p (s .pre .1 .0) (ordinates-left (a .across .now) (a .d) (a .lo) (a .hi) p l has))
           (ordinate-near (a .across .now) (a .d) (a .hi) p (s .pre .1 .0) has)),
@@ -97,4 +93,4 @@ returns c =
 pub best-spec : {M : Type 1} → statement M
 best-spec =
     tie.close
-    (tie.spec Inv-loop μ-loop ordinate-requires cast-first (λ c. omega arith) consider-requires (λ c. c .before .before .before .pre .0) add-m (λ c. c .before .before .before .pre .0) add-m-end loop-holds (λ c. let h = inside c in omega arith) consider-requires-2 (λ c. omega arith) (λ c. omega arith) loop-again returns)
+    (tie.spec Inv-loop μ-loop ordinate-requires (λ c. omega arith) consider-requires (λ c. c .before .before .before .pre .0) add-m (λ c. c .before .before .before .pre .0) add-m-end loop-holds (λ c. let h = inside c in omega arith) consider-requires-2 (λ c. omega arith) (λ c. omega arith) loop-again returns)
