@@ -1,4 +1,5 @@
 pub mod Fitting
 pub mod Marks
 pub mod Leading
+pub mod Loading
 pub mod Results

@@ -3,12 +3,15 @@ use model::Sense;
 ghost use mathlib.Core.Path.{_≡_};
 ghost use mathlib.Core.List.{_++_};
 ghost use Prim.Native.Nat.{ℕ, _*_, _≤_};
+ghost use lib.IntN.{pos};
 ghost use lib.ListN.{length, drop};
 ghost use Rattle.exact.specs.Bounds.{Within};
+ghost use Rattle.exact.specs.Choice.{if_then_else_};
+ghost use Rattle.exact.specs.Questions.{beats};
 ghost use Rattle.magnitudes.specs.Magnitudes.{pairMost, areaMost};
 ghost use Rattle.model.specs.Decode.{pieceAt, influenceLine};
 ghost use Rattle.model.specs.declared.Sense.{Sense};
-ghost use Rattle.model.specs.Line.{endSum, patchByte, patchBytes, loadedByte};
+ghost use Rattle.model.specs.Line.{endSum, patchByte, patchBytes, loadedByte, sought};
 ghost use Rattle.pair.specs.LineFits.{LineFits};
 ghost use Rattle.line.specs.PieceFits.{PieceFits};
 ghost use Rattle.line.specs.Sought.{loadedSum, doubleArea, areaFor};
@@ -22,19 +25,14 @@ fn end_sum(line: &[u8], i: usize) -> i16
         + words::ordinate(line, model::PIECE_WORDS * i + 1)
 }
 
-// Piece i's patch byte.
-fn patch_byte(line: &[u8], i: usize) -> u8
-    requires { ⌜ PieceFits (now line) i ⌝ }
-    ensures { λ r. ⌜ r ≡ patchByte (pieceAt (now (line .entry)) i) ⌝ }
+// An element of the sense loads a piece of this ordinate sum.
+fn loads(sense: Sense, sum: i16) -> bool
+    ensures { λ r. ⌜ r ≡ beats (sought sense) sum (pos 0) ⌝ }
 {
-    let sum = end_sum(line, i);
-    if sum < 0 {
-        return 2;
+    match sense {
+        Sense::Raising => 0 < sum,
+        Sense::Lowering => sum < 0,
     }
-    if 0 < sum {
-        return 1;
-    }
-    0
 }
 
 // The patch byte of the pieces that an element loads.
@@ -47,13 +45,33 @@ fn loaded_byte(sense: Sense) -> u8
     }
 }
 
+// That byte where the element loads a piece of this ordinate sum, else 0.
+fn byte_where_loaded(sense: Sense, sum: i16) -> u8
+    ensures { λ r. ⌜ (r ≡ (if beats (sought sense) sum (pos 0) then loadedByte sense else 0)) × (r ≤ 2) ⌝ }
+{
+    if loads(sense, sum) {
+        return loaded_byte(sense);
+    }
+    0
+}
+
+// Piece i's patch byte.
+fn patch_byte(line: &[u8], i: usize) -> u8
+    requires { ⌜ PieceFits (now line) i ⌝ }
+    ensures { λ r. ⌜ r ≡ patchByte (pieceAt (now (line .entry)) i) ⌝ }
+{
+    let sum = end_sum(line, i);
+    byte_where_loaded(Sense::Raising, sum) + byte_where_loaded(Sense::Lowering, sum)
+}
+
 // Piece i's ordinate sum where an element of the sense loads it, else 0.
 fn loaded_sum(line: &[u8], i: usize, sense: Sense) -> i16
     requires { ⌜ PieceFits (now line) i ⌝ }
     ensures { λ r. ⌜ (r ≡ loadedSum sense (pieceAt (now (line .entry)) i)) × Within pairMost r ⌝ }
 {
-    if patch_byte(line, i) == loaded_byte(sense) {
-        return end_sum(line, i);
+    let sum = end_sum(line, i);
+    if loads(sense, sum) {
+        return sum;
     }
     0
 }
