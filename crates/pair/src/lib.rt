@@ -151,7 +151,7 @@ pub fn side_of(place: usize) -> Side
     }
 }
 
-// The stand that a rank stands for.
+// The stand that a rank stands for. Turned and raised by 65536 times 10001, a rank is above 0: place and ordinates are its remainder and quotient.
 pub fn stand_of(q: Question, rank: i32) -> Stand
     requires { ⌜ Within rankMost rank ⌝ }
     ensures { λ r. ⌜ ((v : ℤ) (p : ℕ) → Within pairMost v → p ≤ 4095 → rank ≡ rankOf q v p → r ≡ standOf v p) × (r .station ≤ 32767) ⌝ }
