@@ -2,16 +2,13 @@
 use Prim.Native.Nat.{ℕ, _+_, _*_, _≤_, _<_}
 use mathlib.Core.List.{List}
 use native.Mathlib.Omega.{arith}
-use Rattle.pair.specs.LineFits.{WordFits, LineFits}
+use lib.Dec.{lit≤}
+use Rattle.exact.proofs.Bounds.{within-le}
+use Rattle.pair.specs.LineFits.{LineFits}
 use Rattle.line.specs.PieceFits.{PieceFits}
-use Rattle.model.specs.Format.{size}
-use Rattle.model.specs.declared.Part.the-variants.{Line}
 
 pub fits-piece : {s : List ℕ} {n : ℕ} → LineFits s n → (i : ℕ) → i < n → PieceFits s i
-fits-piece f i h = record { room = omega (arith, f .room); near = λ k a b. f .near k (omega arith) }
-
-pub piece-word : {s : List ℕ} {i : ℕ} → PieceFits s i → (k : ℕ) → size Line * i ≤ k → k ≤ size Line * i + 1 → WordFits s k
-piece-word f k a b = record { room = omega (arith, f .room); near = f .near k a b }
+fits-piece f i h = record { room = omega (arith, f .room); near = λ k a b. within-le (f .near k (omega arith)) (lit≤ tt) }
 
 -- fewer pieces fit too
 pub fits-fewer : {s : List ℕ} {m n : ℕ} → LineFits s n → m ≤ n → LineFits s m
