@@ -60,7 +60,7 @@ ordinate-requires-2 : tie.Need-ordinate-requires-2
 ordinate-requires-2 c κs = (omega (arith, s c .pre .1 .1 .room), within-le (right (s c)) (lit≤ tt))
 
 mul-result : tie.Need-mul-result
-mul-result c = times! (d-j (s c) .1) (y c .1) (omega arith)
+mul-result c = search (needs, times! (d-j (s c) .1) (y c .1) (omega arith))
 
 cast-result-3 : tie.Need-cast-result-3
 cast-result-3 c = let h = small (s c) in record { sfits = omega arith }

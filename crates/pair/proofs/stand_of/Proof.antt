@@ -10,10 +10,10 @@ use mir.Val.{toZ, ofZ}
 use Rattle.exact.specs.Parts.{up}
 use Rattle.exact.specs.Bounds.{Within}
 use Rattle.exact.specs.declared.Question.{Question}
-use Rattle.exact.proofs.Bounds.{within-le, within-abs}
+use Rattle.exact.proofs.Bounds.{within-abs}
 use Rattle.exact.proofs.Bridge.{by-test, added}
 use Rattle.exact.proofs.Held.{Kept, told, arg, any, got, ret, retold, loosen, lit, nat, cast, cast!, index!, index-is, plus, plus!, minus, minus!, times, times! }
-use Rattle.exact.proofs.Ring.{_⊕_, _⊗_, _⊝_, lit as num, _≐_, solve}
+use Rattle.exact.proofs.Ring.{_⊕_, _⊝_, lit as num, _≐_, solve}
 use Rattle.exact.proofs.Tests.{lt-is}
 use Rattle.model.specs.declared.Side.{Side}
 use Rattle.pair.specs.PairPlaces.{sideAt, turned, rankOf, rankMost, standOf}

@@ -1,8 +1,7 @@
 use lib.Dec.{lit<, lit≤}
 use mir.Syntax.{w32}
-use Rattle.exact.proofs.Held.{Held, told, arg, lit, loosen, minus, minus!, retold}
+use Rattle.exact.proofs.Held.{told, arg, lit, loosen, minus, minus!, retold}
 use Rattle.exact.proofs.Ring.{_⊝_, lit as num, neg, _≐_, solve}
-use Rattle.pair.specs.PairPlaces.{rankMost}
 use borrow.Author.Needs.{needs}
 use Rattle.pair.proofs.turn.Statement.{statement}
 use Rattle.pair.proofs.turn.Tie as tie

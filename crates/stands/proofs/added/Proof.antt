@@ -34,7 +34,7 @@ module _ (s : tie.Start) where
   share q ok e = retold (got w64 ok e) (ap (counted (s .args .mode) q) (effect .1 .is) ∙ counted-scale (s .args .mode) q (s .args .load) (s .args .ordinate))
 
 mul-x : tie.Need-mul-x
-mul-x s = times! (nat w64 400 (s .pre .0) (omega (arith, s .pre .0))) (cast (ordinate s .1) w64 (lit< tt)) (lit< tt)
+mul-x s = search (needs, times! (nat w64 400 (s .pre .0) (omega (arith, s .pre .0))) (cast (ordinate s .1) w64 (lit< tt)) (lit< tt))
 
 returns : tie.Need-returns
 returns c Greatest = let d = c .before .before .before .before .before in plus (sum (d .before) Greatest .1) (share (d .before) Greatest (d .counted .ok) (d .counted .ensures)) (lit< tt) .is

@@ -6,7 +6,7 @@ use Rattle.words.proofs.ordinate.Statement.{statement}
 use Rattle.words.proofs.ordinate.Tie as tie
 
 narrow : tie.Need-cast-result
-narrow c = cast! (ret w32 (c .word32 .ok) (c .word32 .ensures) (c .before .before .pre .1)) w16 (lit< tt)
+narrow c = search (needs, cast! (ret w32 (c .word32 .ok) (c .word32 .ensures) (c .before .before .pre .1)) w16 (lit< tt))
 
 returns : tie.Need-returns
 returns c = cast (ret w32 (c .word32 .ok) (c .word32 .ensures) (c .before .before .pre .1)) w16 (lit< tt) .is

@@ -8,6 +8,7 @@ use mir.Syntax.{w32, w64}
 use mir.Val.{SFits, toZ, ofZ}
 use Rattle.exact.specs.Bounds.{Within}
 use Rattle.exact.proofs.Held.{Held, told, any, known, retold}
+use Rattle.magnitudes.specs.Magnitudes.{areaMost}
 use Rattle.model.specs.Job.{InfluenceLine}
 use Rattle.model.specs.Decode.{influenceLine}
 use Rattle.model.specs.Line.{axleSpacing, sought}
@@ -48,23 +49,16 @@ module _ (c : tie.After-best-ranks) where
 area : (c : tie.After-double-areas) (sense : Sense) → Held w64 (ofZ w64 (areaFor sense (c .double-areas .result))) 10000000 (doubleArea (line (c .before)) sense)
 area c sense = let e = c .double-areas .ensures sense in retold (known w64 (e .1) (lit< tt)) (e .0)
 
+-- what is asked of either sense's numbers, as they are passed
+asked : (c : tie.After-double-areas) → ((sense : Sense) → SFits w32 (rankFor (sought sense) (c .before .best-ranks .result))) →
+    (1 ≤ st (c .before) .args .h) × (Within areaMost (toZ w64 (ofZ w64 (c .double-areas .result .raising))) × Within areaMost (toZ w64 (ofZ w64 (c .double-areas .result .lowering)))) × (Within rankMost (rank (c .before) Raising) × Within rankMost (rank (c .before) Lowering))
+asked c f = let b = c .before in (st b .pre .1 .0, (told (area c Raising) .1, told (area c Lowering) .1), (bounded b Raising (f Raising), bounded b Lowering (f Lowering)))
+
 sought-at-requires : tie.Need-sought-at-requires
-sought-at-requires c κs =
-    let d = c .before .before in
-    let up = told (area d Raising) .1 in
-    let down = told (area d Lowering) .1 in
-    let high = bounded (d .before) Raising (search needs) in
-    let low = bounded (d .before) Lowering (search needs) in
-    (st (d .before) .pre .1 .0, search needs, search needs)
+sought-at-requires c κs = let a = asked (c .before .before) (λ sense. elim sense [ Raising ↦ search needs | Lowering ↦ search needs ]) in (a .0, search needs, search needs)
 
 sought-at-requires-2 : tie.Need-sought-at-requires-2
-sought-at-requires-2 c κs =
-    let d = c .before .before .before .before .before in
-    let up = told (area d Raising) .1 in
-    let down = told (area d Lowering) .1 in
-    let high = bounded (d .before) Raising (search needs) in
-    let low = bounded (d .before) Lowering (search needs) in
-    (st (d .before) .pre .1 .0, search needs, search needs)
+sought-at-requires-2 c κs = let a = asked (c .before .before .before .before .before) (λ sense. elim sense [ Raising ↦ search needs | Lowering ↦ search needs ]) in (a .0, search needs, search needs)
 
 returns : tie.Need-returns
 returns c Raising = let d = c .before .before .before .before .before .before in c .before .before .before .sought-at .ensures (line (d .before)) refl (found (d .before) Raising (search needs) (area d Raising .is))

@@ -47,10 +47,10 @@ module _ (c : tie.After-loaded-sum2 Inv-loop μ-loop) where
   line = st .args .line .now
 
 add-raised : tie.Need-add-raised Inv-loop μ-loop
-add-raised c = let l = c .before .before .loop in more! Raising (c .before .before .before .before .args .line .now) (l .i) (few (c .before)) (l .inv .1) (got w16 (c .loaded-sum .ok) (c .loaded-sum .ensures))
+add-raised c = let l = c .before .before .loop in search (needs, more! Raising (c .before .before .before .before .args .line .now) (l .i) (few (c .before)) (l .inv .1) (got w16 (c .loaded-sum .ok) (c .loaded-sum .ensures)))
 
 add-lowered : tie.Need-add-lowered Inv-loop μ-loop
-add-lowered c = let l = c .before .before .before .loop in more! Lowering (line c) (l .i) (few (c .before .before)) (l .inv .2) (got w16 (c .loaded-sum2 .ok) (c .loaded-sum2 .ensures))
+add-lowered c = let l = c .before .before .before .loop in search (needs, more! Lowering (line c) (l .i) (few (c .before .before)) (l .inv .2) (got w16 (c .loaded-sum2 .ok) (c .loaded-sum2 .ensures)))
 
 loop-again : tie.Need-loop-again Inv-loop μ-loop
 loop-again c =

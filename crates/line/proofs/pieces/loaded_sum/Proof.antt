@@ -6,7 +6,7 @@ use lib.IntN.{ℤ, pos}
 use mir.Syntax.{w16}
 use Rattle.exact.specs.Questions.{beats}
 use Rattle.exact.proofs.Bounds.{within-pos}
-use Rattle.exact.proofs.Held.{Held, got, told}
+use Rattle.exact.proofs.Held.{got, told}
 use Rattle.model.specs.Decode.{pieceAt}
 use Rattle.model.specs.Line.{sought, patchByte, loadedByte}
 use Rattle.line.proofs.Loading.{loaded-by}

@@ -1,4 +1,3 @@
-use mathlib.Core.Bool.{Bool}
 use mathlib.Core.Path.{ap}
 use lib.IntN.{ℤ, pos}
 use lib.Signed.{ltZ}
