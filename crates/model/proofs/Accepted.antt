@@ -1,13 +1,19 @@
 -- What an accepted job is, decoded.
-use mathlib.Core.Path.{_≡_}
+use mathlib.Core.Path.{_≡_, ap}
 use mathlib.Core.Option.{none}
 use mathlib.Core.List.{List}
 use Prim.Native.Nat.{ℕ, _<_}
 use native.Mathlib.Omega.{arith}
+use lib.Dec.{ltb}
+use borrow.Author.Tests.{lt-ltb}
+use Rattle.exact.specs.Choice.{if_then_else_}
+use Rattle.model.specs.Format.{headerOf}
 use Rattle.model.specs.Decode.{decode}
+use Rattle.model.specs.Lanes.{laneCount, lanes}
 use Rattle.model.specs.Refusals.{jobVerdict}
+use Rattle.model.specs.declared.Edition.the-variants.{Fourth}
 use Rattle.model.proofs.Verdict.{clear}
-use Rattle.model.proofs.HeaderLimits.{header-fits, whole-spacing}
+use Rattle.model.proofs.HeaderLimits.{header-fits, rural-width, whole-spacing}
 use Rattle.model.proofs.LineLimits.{OneSigned, one-signed}
 
 module _ (b : List ℕ) (accepted : jobVerdict b ≡ none) where
@@ -24,3 +30,11 @@ module _ (b : List ℕ) (accepted : jobVerdict b ≡ none) where
   pub accepted-length : 0 < decode b .line .h
   unfolding decode
   accepted-length = whole-spacing _ (header-fits b (clear b accepted .c2) .length) .0
+
+  -- a rural bridge has one lane
+  pub accepted-one-lane : headerOf b .edition ≡ Fourth → lanes (decode b) ≡ 1
+  unfolding decode lanes laneCount
+  accepted-one-lane r =
+      let w = headerOf b .width in
+      let narrow = rural-width b (clear b accepted .c11) r in
+      ap (λ t. if t then 1 else (if ltb w 970 then 2 else (if ltb w 1340 then 3 else (if ltb w 1710 then 4 else 5)))) (lt-ltb w 600 (omega (arith, narrow)))

@@ -18,7 +18,7 @@ use Rattle.model.specs.Job.{InfluenceLine, Job, Live, noTraffic, normal,
 use Rattle.model.specs.Line.{Kind, HN, HO, axle, bestPair, patchByte, patchBytes, uniformPart, lineEffect}
 use Rattle.model.specs.Lanes.{bit, lanes, unit, ordinateIn, twentieths, CentreFits}
 use Rattle.model.specs.Traffic.{laneEffect, setSum, bestSum, effectOf, trafficValue}
-use Rattle.model.specs.Arrangements.{Element, Load, unloaded, element, Arrangement, elementLine, elementEffect, carries, loadEffect, lanesUnder, sumUnder, sumOf, arranged, OverloadLanes, Lawful}
+use Rattle.model.specs.Arrangements.{Element, Load, unloaded, element, Arrangement, elementLine, elementEffect, carries, loadEffect, lanesUnder, sumUnder, sumOf, arranged, KindsFit, Lawful}
 use Rattle.model.specs.Answered.{laneAt, positionOf, reportedElement, reportedLoad, reported, reportedEffect, PositionRight, trafficIn, extremeOf, countedTraffic}
 use Rattle.model.specs.Placements.{BestCentre, EntryRight, entryIs, placedLanes, placedUnder, placedSum}
 use Rattle.model.specs.declared.Sense.{Sense}
@@ -122,15 +122,18 @@ module _ (q : Question) (job : Job) (patch rest : List ℕ) (a : Account) (bytes
         go HO (Hn sense) centre = refl
         go HO (Ho sense) centre = refl
 
-    -- it keeps the rules of a live kind that has as many HO lanes
-    pub reported-lawful : (live : Live) → OverloadLanes live (placedLanes job HO p) → Lawful job live n (reported job patch a p)
+    -- it keeps the rules of a live kind that has as many lanes under each kind
+    pub reported-lawful : (live : Live) → KindsFit (job .profile) live (placedLanes job HN p) (placedLanes job HO p) → Lawful job live n (reported job patch a p)
     unfolding reported
     reported-lawful live kinds = record {
       fine = unit-pos job;
-      kinds = subst (OverloadLanes live) (count-cong (lanes job) _ _ (λ i h. sym (carries-entry HO i))) kinds;
+      kinds = subst (λ (m : ℕ). KindsFit (job .profile) live m (lanesUnder job HO (reported job patch a p))) (same HN) (subst (KindsFit (job .profile) live (placedLanes job HN p)) (same HO) kinds);
       centres = λ i e h is. go i (laneAt p i .entry) (laneAt p i .centre) (entries i h) e is;
     }
       where
+        same : (kind : Kind) → placedLanes job kind p ≡ lanesUnder job kind (reported job patch a p)
+        same kind = count-cong (lanes job) _ _ (λ i h. sym (carries-entry kind i))
+
         fits : (i : ℕ) (x e : Element) → element x ≡ element e → CentreFits job i n (x .centre) → CentreFits job i n (e .centre)
         fits i x e is h = subst (λ (l : Load). elim l as (λ _. Type 0) [ unloaded ↦ ⊥ | element e ↦ CentreFits job i n (e .centre) ]) is h
 
@@ -160,8 +163,8 @@ module _ (q : Question) (job : Job) (patch rest : List ℕ) (a : Account) (bytes
 -- ---- a placement by its set of HN lanes and the test of its HO lanes
 module _ (q : Question) (job : Job) (p : Placement) (s : ℕ) (over : ℕ → Bool) (small : s < 2 ^ lanes job)
     (lanes-hn : (i : ℕ) → i < lanes job → entryIs HN (laneAt p i .entry) ≡ bit s i) (lanes-ho : (i : ℕ) → i < lanes job → entryIs HO (laneAt p i .entry) ≡ over i) where
-  pub placed-lanes : placedLanes job HO p ≡ countTo (lanes job) over
-  placed-lanes = count-cong (lanes job) _ _ lanes-ho
+  pub placed-lanes : (placedLanes job HN p ≡ countTo (lanes job) (bit s)) × (placedLanes job HO p ≡ countTo (lanes job) over)
+  placed-lanes = (count-cong (lanes job) _ _ lanes-hn, count-cong (lanes job) _ _ lanes-ho)
 
   pub placed-sum : placedSum q job p ≡ pos 20 *ℤ sumTo (lanes job) (λ i. if over i then laneEffect q job HO i else pos 0) +ℤ setSum (twentieths job) (lanes job) (laneEffect q job HN) s
   unfolding setSum

@@ -21,6 +21,10 @@ pub record Count (lo hi : ℕ) (z : ℤ) : Type 0 where
   pub least : lo ≤ up z
   pub most : up z ≤ hi
 
+-- wider limits
+pub wider : {lo hi lo′ hi′ : ℕ} {z : ℤ} → Count lo hi z → lo′ ≤ lo → hi ≤ hi′ → Count lo′ hi′ z
+wider c l h = record { is = c .is; least = omega (arith, c .least); most = omega (arith, c .most) }
+
 pub between-count : (lo hi : ℕ) (z : ℤ) → between (pos lo) (pos hi) z ≡ true → Count lo hi z
 between-count lo hi (pos n) e =
     let t = and-eq-true-iff (leZ (pos lo) (pos n)) (leZ (pos n) (pos hi)) .0 e in

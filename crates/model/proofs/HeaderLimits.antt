@@ -1,4 +1,4 @@
--- Refusal 2: a job without it has each header word within its limits.
+-- Refusals 2 and 11: a job without them has each header word within its limits, and a rural bridge its width.
 use mathlib.Core.Path.{_≡_, refl, sym, _∙_, ap, subst}
 use mathlib.Core.Logic.{inl, inr}
 use mathlib.Core.Bool.{true, false, true≢false, and-eq-true-iff}
@@ -7,19 +7,23 @@ use mathlib.Core.List.{List, [], _∷_}
 use Prim.Native.Nat.{ℕ, _+_, _*_, _/_, _≤_, _<_}
 use native.Mathlib.Omega.{arith}
 use lib.IntN.{ℤ, pos, _*ℤ_}
-use lib.ListN.{getD}
+use lib.ListN.{length, getD}
+use native.Mathlib.Nat.{mul-zero}
 use lib.Signed.{_≤ℤ_, leZ}
 use Rattle.exact.specs.Choice.{if_then_else_, between}
 use Rattle.exact.specs.Parts.{up}
 use Rattle.exact.proofs.Bridge.{by-test, ≤→ℕ}
 use Rattle.exact.proofs.Tests.{leZ-true}
 use Rattle.words.specs.Words.{wordAt, countAt}
-use Rattle.words.specs.Fields.{free, itemFrom}
-use Rattle.model.specs.Format.{headerOf, is, dynamicFits, format, sectionOf}
+use Rattle.words.specs.Fields.{free, range, _of_, itemFrom, misfit}
+use Rattle.model.specs.Format.{headerOf, is, dynamicFits, tableCounts, format, words, bytes, sectionOf}
 use Rattle.model.specs.Dynamic.{dynamicFactor}
-use Rattle.model.specs.Refusals.{fault2}
+use Rattle.model.specs.Refusals.{fault2, widthTest, fault11}
+use Rattle.model.specs.declared.Edition.{Edition}
+use Rattle.model.specs.declared.Edition.the-variants.{First, Fourth}
 use Rattle.model.specs.declared.Part.the-variants.{Head}
-use Rattle.model.proofs.Counts.{Count, between-count, OneOf, one-of}
+use Rattle.model.proofs.Verdict.{header-long}
+use Rattle.model.proofs.Counts.{Count, wider, between-count, OneOf, one-of}
 use Rattle.model.proofs.Sections.{section-word}
 use Rattle.words.proofs.Fits.{or-none, moved-none, fits}
 
@@ -42,8 +46,13 @@ pub record HeaderFits (b : List ℕ) : Type 0 where
   pub valueFits : dynamicFits (wordAt b 5) (wordAt b 6) ≡ true
   pub dynamic : DynamicRight (countAt b 5) (countAt b 6)
   pub effects : Count 0 16 (wordAt b 7)
-  pub rows : Count 1 32 (wordAt b 8)
+  pub rows : Count 0 32 (wordAt b 8)
   pub records : Count 0 512 (wordAt b 9)
+  -- a rural bridge's eleven effects
+  pub eleven : headerOf b .edition ≡ Fourth → countAt b 7 ≡ 11
+
+first-not-fourth : First ≡ Fourth → ⊥
+first-not-fourth e = subst (λ (x : Edition). elim x as (λ _. Type 0) [ First ↦ Unit {0} | Fourth ↦ ⊥ ]) e tt
 
 dynamic-words : (x y : ℤ) → Count 1 3 x → dynamicFits x y ≡ true → Count 0 5000 y × DynamicRight (up x) (up y)
 dynamic-words x y c =
@@ -64,6 +73,10 @@ dynamic-words x y c =
 
     third : is 1 x ≡ false → is 2 x ≡ false → up x ≡ 3
     third f t = let a = other 1 f refl in let b = other 2 t refl in omega (arith, c .least, c .most)
+
+-- the header's words are the job's first
+head-word : (b : List ℕ) (q : ℕ) → q < 10 → wordAt (sectionOf b Head) q ≡ wordAt b q
+head-word b q h = let g : 0 + q ≡ q = omega arith in section-word b (headerOf b) Head q (omega (arith, header-long (headerOf b))) ∙ ap (wordAt b) g
 
 -- a job without fault 2 has a header within its limits
 pub header-fits : (b : List ℕ) → fault2 b ≡ none → HeaderFits b
@@ -86,23 +99,56 @@ header-fits b e =
       value = value .0;
       valueFits = fits;
       dynamic = value .1;
-      effects = count 7 0 16 (omega arith) (field 7 (omega arith));
-      rows = count 8 1 32 (omega arith) (field 8 (omega arith));
-      records = count 9 0 512 (omega arith) (field 9 (omega arith));
+      effects = counts .0;
+      rows = counts .1;
+      records = counts .2;
+      eleven = counts .3;
     }
   where
-    -- the header's words are the job's first
+    long : bytes Head ≤ 4 * words (headerOf b) Head
+    long = header-long (headerOf b)
+
     word : (q : ℕ) → q < 10 → wordAt (sectionOf b Head) q ≡ wordAt b q
-    word q h = let g : 0 + q ≡ q = omega arith in section-word b (headerOf b) Head q h ∙ ap (wordAt b) g
+    word = head-word b
 
     field : (q : ℕ) → q < 10 → getD (format (headerOf b) Head .fields) q free (itemFrom (sectionOf b Head) 0 0) (wordAt (sectionOf b Head) (0 + q)) ≡ true
-    field q h = fits (format (headerOf b) Head) (sectionOf b Head) (moved-none 0 _ (or-none _ none e .0)) 0 q (omega arith) h
+    field q h = rw (mul-zero (length (format (headerOf b) Head .fields))) at (fits (format (headerOf b) Head) (sectionOf b Head) (moved-none 0 _ (or-none _ none e .0)) 0 q (omega arith) (omega (arith, long)))
 
     count : (q lo hi : ℕ) → q < 10 → between (pos lo) (pos hi) (wordAt (sectionOf b Head) q) ≡ true → Count lo hi (wordAt b q)
     count q lo hi h t = between-count lo hi (wordAt b q) (rw (word q h) at t)
 
+    -- words 7, 8 and 9, by edition
+    counts : Count 0 16 (wordAt b 7) × Count 0 32 (wordAt b 8) × Count 0 512 (wordAt b 9) × (headerOf b .edition ≡ Fourth → countAt b 7 ≡ 11)
+    counts = go (headerOf b .edition) (field 7 (omega arith)) (field 8 (omega arith)) (field 9 (omega arith))
+      where
+        Admits : Edition → ℕ → ℤ → Type 0
+        Admits e j x = getD (tableCounts e) j free (itemFrom (sectionOf b Head) 0 0) x ≡ true
+
+        go : (e : Edition) → Admits e 0 (wordAt (sectionOf b Head) 7) → Admits e 1 (wordAt (sectionOf b Head) 8) → Admits e 2 (wordAt (sectionOf b Head) 9) →
+            Count 0 16 (wordAt b 7) × Count 0 32 (wordAt b 8) × Count 0 512 (wordAt b 9) × (e ≡ Fourth → countAt b 7 ≡ 11)
+        go First x y z = (count 7 0 16 (omega arith) x, wider (count 8 1 32 (omega arith) y) (omega arith) (omega arith), count 9 0 512 (omega arith) z, λ n. absurd (first-not-fourth n))
+        go Fourth x y z =
+            let eleven = count 7 11 11 (omega arith) x in
+            (wider eleven (omega arith) (omega arith), wider (count 8 0 0 (omega arith) y) (omega arith) (omega arith), wider (count 9 0 0 (omega arith) z) (omega arith) (omega arith), λ _. omega (arith, eleven .least, eleven .most))
+
     product : {x y : ℤ} {m n : ℕ} → x ≡ pos m → y ≡ pos n → (x *ℤ y) ≤ℤ pos 1000 → m * n ≤ 1000
     product {x} {y} {m} {n} e f h = omega (arith, ≤→ℕ (subst (λ (z : ℤ). (pos m *ℤ z) ≤ℤ pos 1000) f (subst (λ (z : ℤ). (z *ℤ y) ≤ℤ pos 1000) e h)))
+
+-- a rural bridge without fault 11 is at most 430 cm wide
+pub rural-width : (b : List ℕ) → fault11 b ≡ none → headerOf b .edition ≡ Fourth → countAt b 4 ≤ 430
+unfolding fault11
+rural-width b e r = rw (head-word b 4 (omega arith)) at (go (headerOf b .edition) r e)
+  where
+    s : List ℕ
+    s = sectionOf b Head
+
+    go : (ed : Edition) → ed ≡ Fourth → misfit (1 of widthTest ed) s ≡ none → up (wordAt s 4) ≤ 430
+    go First f e = absurd (first-not-fourth f)
+    go Fourth f e =
+        by-test (is 3 (wordAt s 10)) (λ t. (if t then range 370 430 else range 300 370) (itemFrom s 0 0) (wordAt s 4) ≡ true → up (wordAt s 4) ≤ 430)
+        (λ _ t. between-count 370 430 (wordAt s 4) t .most)
+        (λ _ t. let c = between-count 300 370 (wordAt s 4) t in omega (arith, c .most))
+        (fits (1 of widthTest Fourth) s e 0 4 (omega arith) (omega arith))
 
 -- 50 dm is a whole number of pieces
 pub whole-spacing : (h : ℕ) → OneOf (1 ∷ 2 ∷ 5 ∷ 10 ∷ 25 ∷ 50 ∷ []) h → (0 < h) × (50 / h * h ≡ 50)

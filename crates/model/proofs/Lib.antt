@@ -2,6 +2,7 @@ pub mod Figures
 pub mod Pigeonhole
 pub mod Chains
 pub mod Determined
+pub mod RuralBridges
 pub mod Sections
 pub mod Counts
 pub mod Verdict

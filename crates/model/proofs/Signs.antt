@@ -23,12 +23,12 @@ use Rattle.exact.proofs.Ring.{_⊕_, _⊗_, _⊝_, lit, _≐_, solve}
 use Rattle.exact.proofs.Extremes.{no-better-refl, no-better-of-eq, no-better-trans, no-better-add, no-better-scale, better-left, better-right, extreme-bounds}
 use Rattle.exact.proofs.Ranges.{sum-mono, sum-zero}
 use Rattle.exact.proofs.Rounding.{rounded-mono}
-use Rattle.model.specs.Job.{Piece, InfluenceLine, Job, Live, noTraffic, normal, overload}
+use Rattle.model.specs.Job.{Profile, highway, rural, Piece, InfluenceLine, Job, Live, noTraffic, normal, overload}
 use Rattle.model.specs.Decode.{decode}
 use Rattle.model.specs.Refusals.{jobVerdict}
 use Rattle.model.specs.Line.{Kind, HN, HO, axle, axleSpacing, ordinate, pair, endSum, patchByte, loadedByte, sought, pieceLoad, uniformPart, station, bestPair, lineEffect}
-use Rattle.model.specs.Lanes.{without, lanes, unit, sumUnit, lowestIn, highestIn, ordinateIn, twentieths}
-use Rattle.model.specs.Traffic.{bestInLane, laneEffect, setSum, bestNormal, bestOverload, bestSum, effectOf, trafficValue}
+use Rattle.model.specs.Lanes.{without, lanes, unit, sumUnit, lowestIn, highestIn, ordinateIn, reductionFor}
+use Rattle.model.specs.Traffic.{bestOn, bestInLane, laneEffect, setSum, bestNormal, bestOverload, bestSum, effectOf, trafficValue}
 use Rattle.model.specs.declared.Side.{Side}
 use Rattle.model.specs.declared.Side.the-variants.{Left, Right}
 use Rattle.model.specs.declared.Sense.{Sense}
@@ -157,21 +157,25 @@ pub empty-sum : (r : ℕ → ℤ) (n : ℕ) (hn : ℕ → ℤ) → setSum r n hn
 unfolding setSum
 empty-sum r n hn = ap (λ (x : ℤ). r (ones 0) *ℤ x) (sum-zero n _ (λ i l. rw (zero-div (2 ^ i)) refl)) ∙ solve 1 (λ r. r ⊗ lit 0 ≐ lit 0) tt (r (ones 0))
 
--- no best sum is beaten by 0
-pub sum-zero-bound : (q : Question) (job : Job) (live : Live) → NoBetter q (pos 0) (bestSum q job live)
-unfolding bestSum bestNormal bestOverload
-sum-zero-bound q job noTraffic = no-better-refl q (pos 0)
-sum-zero-bound q job normal =
-    subst (λ (x : ℤ). NoBetter q x (bestSum q job normal)) (empty-sum (twentieths job) (lanes job) (laneEffect q job HN))
-    (extreme-bounds q (2 ^ lanes job - 1) (setSum (twentieths job) (lanes job) (laneEffect q job HN)) 0 (omega arith))
-sum-zero-bound q job overload =
-    let hn = laneEffect q job HN in
-    let ho = laneEffect q job HO in
-    let n = lanes job in
-    let f : ℕ → ℕ → ℤ = λ o set. pos 20 *ℤ ho o +ℤ setSum (twentieths job) n hn (without o set) in
-    no-better-trans q (pos 0) (pos 20 *ℤ ho 0) _ (multiple-zero q 20 (ho 0) (lane-zero q job HO 0))
-    (no-better-trans q _ (f 0 0) _ (no-better-of-eq q (solve 1 (λ x. x ≐ x ⊕ lit 0) tt (pos 20 *ℤ ho 0) ∙ ap (λ (x : ℤ). pos 20 *ℤ ho 0 +ℤ x) (sym (empty-sum (twentieths job) n hn))))
+-- no best of n lanes is beaten by 0
+on-zero : (q : Question) (p : Profile) (live : Live) (n : ℕ) (hn ho : ℕ → ℤ) → NoBetter q (pos 0) (ho 0) → NoBetter q (pos 0) (bestOn q p live n hn ho)
+unfolding bestOn bestNormal bestOverload
+on-zero q p noTraffic n hn ho h = no-better-refl q (pos 0)
+on-zero q p normal n hn ho h =
+    let r = reductionFor p in
+    subst (λ (x : ℤ). NoBetter q x (extreme q (2 ^ n - 1) (setSum r n hn))) (empty-sum r n hn) (extreme-bounds q (2 ^ n - 1) (setSum r n hn) 0 (omega arith))
+on-zero q highway overload n hn ho h =
+    let r = reductionFor highway in
+    let f : ℕ → ℕ → ℤ = λ o set. pos 20 *ℤ ho o +ℤ setSum r n hn (without o set) in
+    no-better-trans q (pos 0) (pos 20 *ℤ ho 0) _ (multiple-zero q 20 (ho 0) h)
+    (no-better-trans q _ (f 0 0) _ (no-better-of-eq q (solve 1 (λ x. x ≐ x ⊕ lit 0) tt (pos 20 *ℤ ho 0) ∙ ap (λ (x : ℤ). pos 20 *ℤ ho 0 +ℤ x) (sym (empty-sum r n hn))))
     (no-better-trans q _ _ _ (extreme-bounds q (2 ^ n - 1) (f 0) 0 (omega arith)) (extreme-bounds q (n - 1) (λ o. extreme q (2 ^ n - 1) (f o)) 0 (omega arith))))
+on-zero q rural overload n hn ho h = no-better-refl q (pos 0)
+
+-- nor is a job's best sum
+pub sum-zero-bound : (q : Question) (job : Job) (live : Live) → NoBetter q (pos 0) (bestSum q job live)
+unfolding bestSum
+sum-zero-bound q job live = on-zero q (job .profile) live (lanes job) (laneEffect q job HN) (laneEffect q job HO) (lane-zero q job HO 0)
 
 -- ---- the value
 rounded-zero : (q : Question) (d : ℕ) → rounded q (pos 0) d ≡ pos 0
@@ -181,7 +185,7 @@ rounded-zero Least d = rw (zero-div d) refl
 
 -- without traffic the value is 0
 pub no-traffic : (q : Question) (job : Job) → trafficValue q job noTraffic ≡ pos 0
-unfolding trafficValue effectOf bestSum
+unfolding trafficValue effectOf bestSum bestOn
 no-traffic q job =
     let d = 800000 * sumUnit job (unit job) in
     ap (λ (x : ℤ). rounded q (pos 3 *ℤ x) d) (solve 1 (λ y. y ⊗ lit 0 ≐ lit 0) tt (pos (job .dynamic q))) ∙ rounded-zero q d

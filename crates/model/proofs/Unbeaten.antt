@@ -19,13 +19,13 @@ use Rattle.exact.proofs.Exact.{pos-nonneg, _⊕_, _⊗_, lit, _≐_, solve}
 use Rattle.exact.proofs.Extremes.{no-better-of-eq, no-better-trans, no-better-add, no-better-mul, no-better-scale, extreme-bounds}
 use Rattle.exact.proofs.Ranges.{sum-mono, sum-scale, sum-zero, sum-one, count-none, count-one}
 use Rattle.exact.proofs.Rounding.{rounded-cross}
-use Rattle.model.specs.Job.{Job, Live, noTraffic, normal, overload}
+use Rattle.model.specs.Job.{Profile, highway, rural, Job, Live, noTraffic, normal, overload}
 use Rattle.model.specs.Decode.{decode}
 use Rattle.model.specs.Refusals.{jobVerdict}
 use Rattle.model.specs.Line.{Kind, HN, HO}
-use Rattle.model.specs.Lanes.{reduction, without, lanes, unit, twentieths}
-use Rattle.model.specs.Traffic.{laneEffect, setSum, bestNormal, bestOverload, bestSum, effectOf, trafficValue}
-use Rattle.model.specs.Arrangements.{Element, Load, unloaded, element, Arrangement, elementEffect, carries, loadEffect, lanesUnder, sumUnder, sumOf, arranged, OverloadLanes, Lawful}
+use Rattle.model.specs.Lanes.{reduction, without, lanes, unit, reductionFor, twentieths}
+use Rattle.model.specs.Traffic.{laneEffect, setSum, bestNormal, bestOverload, bestOn, bestSum, effectOf, trafficValue}
+use Rattle.model.specs.Arrangements.{Element, Load, unloaded, element, Arrangement, elementEffect, carries, loadEffect, lanesUnder, sumUnder, sumOf, arranged, KindsFit, Lawful}
 use Rattle.model.proofs.Lanes.{unit-pos}
 use Rattle.model.proofs.LineLimits.{OneSigned}
 use Rattle.model.proofs.Accepted.{accepted-signed, accepted-spaced}
@@ -39,6 +39,10 @@ unfolding reduction
 reduction-nonneg m =
     let P : ℤ → Type 0 = λ z. pos 0 ≤ℤ z in
     either P (ltb m 2) _ _ (pos-nonneg 20) (either P (eqb m 2) _ _ (pos-nonneg 18) (either P (eqb m 3) _ _ (pos-nonneg 16) (either P (eqb m 4) _ _ (pos-nonneg 14) (pos-nonneg 12))))
+
+pub reduction-for-nonneg : (p : Profile) (m : ℕ) → pos 0 ≤ℤ reductionFor p m
+reduction-for-nonneg highway m = reduction-nonneg m
+reduction-for-nonneg rural m = pos-nonneg 17
 
 -- an element that a kind's test picks has the kind
 carries-kind : (kind : Kind) (e : Element) → carries kind (element e) ≡ true → e .kind ≡ kind
@@ -87,12 +91,15 @@ module _ (q : Question) (job : Job) (a : Arrangement) where
   as-set : (x : ℤ) → bestUnder q job HO a ≡ x → bestOf q job a ≡ pos 20 *ℤ x +ℤ setSum (twentieths job) n hn set
   as-set x e = ap₂ (λ (y z : ℤ). pos 20 *ℤ y +ℤ z) e (set-sum (twentieths job) n (λ i. carries HN (a i)) hn)
 
+  -- without a lane under a kind, that kind's bests are 0
+  none-under : (kind : Kind) → lanesUnder job kind a ≡ 0 → bestUnder q job kind a ≡ pos 0
+  none-under kind e = sum-zero n _ (λ i h. ap (λ (t : Bool). if t then laneEffect q job kind i else pos 0) (count-none n (λ i. carries kind (a i)) e i h))
+
   normal-best : lanesUnder job HO a ≡ 0 → NoBetter q (bestOf q job a) (bestNormal q (twentieths job) n hn)
   unfolding bestNormal
   normal-best no-ho =
       subst (λ (x : ℤ). NoBetter q x (bestNormal q (twentieths job) n hn))
-      (solve 1 (λ s. s ≐ lit 20 ⊗ lit 0 ⊕ s) tt (setSum (twentieths job) n hn set)
-      ∙ sym (as-set (pos 0) (sum-zero n _ (λ i h. ap (λ (t : Bool). if t then ho i else pos 0) (count-none n (λ i. carries HO (a i)) no-ho i h)))))
+      (solve 1 (λ s. s ≐ lit 20 ⊗ lit 0 ⊕ s) tt (setSum (twentieths job) n hn set) ∙ sym (as-set (pos 0) (none-under HO no-ho)))
       (extreme-bounds q (2 ^ n - 1) (setSum (twentieths job) n hn) set set-small)
 
   overload-best : lanesUnder job HO a ≡ 1 → NoBetter q (bestOf q job a) (bestOverload q (twentieths job) n hn ho)
@@ -109,11 +116,21 @@ module _ (q : Question) (job : Job) (a : Arrangement) where
       (ap (λ (s : ℕ). pos 20 *ℤ ho o +ℤ setSum (twentieths job) n hn s) same ∙ sym (as-set (ho o) sum))
       (no-better-trans q _ _ _ (extreme-bounds q (2 ^ n - 1) (f o) set set-small) (extreme-bounds q (n - 1) (λ o. extreme q (2 ^ n - 1) (f o)) o (omega arith)))
 
-  best-bound : (live : Live) → OverloadLanes live (lanesUnder job HO a) → NoBetter q (bestOf q job a) (bestSum q job live)
-  unfolding bestSum
+  -- a rural bridge's overload arrangement gives nothing
+  idle : lanesUnder job HN a ≡ 0 → lanesUnder job HO a ≡ 0 → bestOf q job a ≡ pos 0
+  idle no-hn no-ho =
+      ap₂ (λ (x y : ℤ). pos 20 *ℤ x +ℤ twentieths job (lanesUnder job HN a) *ℤ y) (none-under HO no-ho) (none-under HN no-hn)
+      ∙ solve 1 (λ r. lit 20 ⊗ lit 0 ⊕ r ⊗ lit 0 ≐ lit 0) tt (twentieths job (lanesUnder job HN a))
+
+  best-bound : (live : Live) → KindsFit (job .profile) live (lanesUnder job HN a) (lanesUnder job HO a) → NoBetter q (bestOf q job a) (bestSum q job live)
+  unfolding bestSum bestOn
   best-bound noTraffic never = absurd never
   best-bound normal no-ho = normal-best no-ho
-  best-bound overload one = overload-best one
+  best-bound overload kinds = go (job .profile) refl kinds
+    where
+      go : (p : Profile) → job .profile ≡ p → KindsFit p overload (lanesUnder job HN a) (lanesUnder job HO a) → NoBetter q (bestOf q job a) (bestOn q p overload n hn ho)
+      go highway e one = subst (λ (p : Profile). NoBetter q (bestOf q job a) (bestOverload q (reductionFor p) n hn ho)) e (overload-best one)
+      go rural e empty = no-better-of-eq q (idle (empty .0) (empty .1))
 
 -- ---- each lane's best bounds what it carries
 module _ (q : Question) (job : Job) (live : Live) (k : ℕ) (a : Arrangement) (signed : OneSigned (job .line)) (g-pos : zero < job .deck .g) (law : Lawful job live k a) where
@@ -149,7 +166,7 @@ module _ (q : Question) (job : Job) (live : Live) (k : ℕ) (a : Arrangement) (s
       λ m s t. solve 4 (λ m s t r. lit 20 ⊗ (m ⊗ s) ⊕ r ⊗ (m ⊗ t) ≐ m ⊗ (lit 20 ⊗ s ⊕ r ⊗ t)) tt m s t r in
       subst (λ (x : ℤ). NoBetter q x (pos c *ℤ bestOf q job a)) (turn n (sumUnder job k HO a) (sumUnder job k HN a))
       (subst (NoBetter q (pos 20 *ℤ (n *ℤ sumUnder job k HO a) +ℤ r *ℤ (n *ℤ sumUnder job k HN a))) (turn (pos c) (bestUnder q job HO a) (bestUnder q job HN a))
-      (no-better-add q _ _ _ _ (no-better-scale q 20 _ _ (kind-bound HO)) (no-better-mul q r _ _ (reduction-nonneg (lanesUnder job HN a)) (kind-bound HN))))
+      (no-better-add q _ _ _ _ (no-better-scale q 20 _ _ (kind-bound HO)) (no-better-mul q r _ _ (reduction-for-nonneg (job .profile) (lanesUnder job HN a)) (kind-bound HN))))
 
   -- demand 3 of a traffic value: no arrangement of the live kind, for any k, beats it
   pub unbeaten : NoBetter q (arranged q job k a) (trafficValue q job live)

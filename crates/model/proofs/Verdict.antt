@@ -10,8 +10,11 @@ use lib.ListN.{length, getD}
 use borrow.Author.Tests.{eqb-true, leb-true, le-leb, lt-leb}
 use Rattle.exact.specs.Choice.{orElse}
 use Rattle.words.specs.Words.{wordAt}
-use Rattle.model.specs.Format.{headerOf, is, words, start, wordsDue, bytes}
-use Rattle.model.specs.Refusals.{Refusal, Test, _finds_, firstRefusal, jobTests, unless, fault1, fault2, fault3, fault4, fault5, fault6, fault7, fault8, fault9, refuse, jobVerdict, verdict}
+use Rattle.model.specs.Format.{headerOf, is, editionNumber, tableCounts, words, start, wordsDue, bytes}
+use Rattle.model.specs.Refusals.{Refusal, Test, _finds_, firstRefusal, jobTests, unless, fault1, fault2, fault3, fault4, fault5, fault6, fault7, fault8, fault9, fault11, refuse, jobVerdict, verdict}
+use Rattle.model.specs.declared.Edition.{Edition}
+use Rattle.model.specs.declared.Edition.the-variants.{First, Fourth}
+use Rattle.model.specs.declared.Header.{Header}
 use Rattle.model.specs.declared.Part.{Part}
 use Rattle.model.specs.declared.Part.the-variants.{Head, Line, Transverse, Effects, Rows, Records}
 
@@ -38,6 +41,7 @@ all-clear (t ∷ rest) e (suc k) = all-clear rest (refuse-none (t .number) (t .f
 pub record Clear (b : List ℕ) : Type 0 where
   pub c1 : fault1 b ≡ none
   pub c2 : fault2 b ≡ none
+  pub c11 : fault11 b ≡ none
   pub c3 : fault3 b ≡ none
   pub c4 : fault4 b ≡ none
   pub c5 : fault5 b ≡ none
@@ -48,23 +52,41 @@ pub record Clear (b : List ℕ) : Type 0 where
 -- an accepted job has no fault of any number
 pub clear : (b : List ℕ) → jobVerdict b ≡ none → Clear b
 unfolding jobVerdict jobTests
-clear b e = let c = all-clear (jobTests b) e in record { c1 = c 0; c2 = c 1; c3 = c 2; c4 = c 3; c5 = c 4; c6 = c 5; c7 = c 6; c8 = c 7 }
+clear b e = let c = all-clear (jobTests b) e in record { c1 = c 0; c2 = c 1; c11 = c 2; c3 = c 3; c4 = c 4; c5 = c 5; c6 = c 6; c7 = c 7; c8 = c 8 }
 
 -- ---- 1 and 3: the size
--- a job without fault 1 has a header
-pub has-header : (b : List ℕ) → fault1 b ≡ none → bytes Head ≤ length b
-unfolding fault1
-has-header b e = leb-true (bytes Head) (length b) (and-eq-true-iff (leb (bytes Head) (length b)) (eqb (length b % 4) 0) .0 (and-eq-true-iff (leb (bytes Head) (length b) && eqb (length b % 4) 0) (is 1 (wordAt b 0)) .0 (unless-none _ 0 e) .0) .0)
+-- a header has ten words or more
+counts-size : (e : Edition) → (3 ≤ length (tableCounts e)) × (length (tableCounts e) ≤ 4)
+counts-size First = omega arith
+counts-size Fourth = omega arith
 
--- a job without fault 1 or 3 has the bytes that its header calls for
-pub size-fits : (b : List ℕ) → fault1 b ≡ none → fault3 b ≡ none → length b ≡ 4 * wordsDue (headerOf b)
-unfolding fault1 fault3
-size-fits b e f =
-    let t = and-eq-true-iff (leb (bytes Head) (length b) && eqb (length b % 4) 0) (is 1 (wordAt b 0)) .0 (unless-none _ 0 e) in
-    let u = and-eq-true-iff (leb (bytes Head) (length b)) (eqb (length b % 4) 0) .0 (t .0) in
-    let rest = eqb-true (length b % 4) 0 (u .1) in
-    let due = eqb-true (length b / 4) (wordsDue (headerOf b)) (unless-none _ (wordsDue (headerOf b)) f) in
-    omega arith
+pub header-long : (head : Header) → bytes Head ≤ 4 * words head Head
+header-long head = omega (arith, counts-size (head .edition) .0)
+
+-- and at most eleven
+pub header-short : (head : Header) → words head Head ≤ 11
+header-short head = omega (arith, counts-size (head .edition) .1)
+
+module _ (b : List ℕ) (e : fault1 b ≡ none) where
+  -- a job without fault 1 has its header's bytes, and a whole number of words
+  framed : (4 * words (headerOf b) Head ≤ length b) × (length b % 4 ≡ 0)
+  unfolding fault1
+  framed =
+      let n = 4 * words (headerOf b) Head in
+      let t = and-eq-true-iff (leb n (length b) && eqb (length b % 4) 0) (is (editionNumber (headerOf b .edition)) (wordAt b 0)) .0 (unless-none _ 0 e) in
+      let u = and-eq-true-iff (leb n (length b)) (eqb (length b % 4) 0) .0 (t .0) in
+      (leb-true n (length b) (u .0), eqb-true (length b % 4) 0 (u .1))
+
+  pub has-header : 4 * words (headerOf b) Head ≤ length b
+  has-header = framed .0
+
+  -- a job without fault 1 or 3 has the bytes that its header calls for
+  pub size-fits : fault3 b ≡ none → length b ≡ 4 * wordsDue (headerOf b)
+  unfolding fault3
+  size-fits f =
+      let rest = framed .1 in
+      let due = eqb-true (length b / 4) (wordsDue (headerOf b)) (unless-none _ (wordsDue (headerOf b)) f) in
+      omega arith
 
 -- every part is in such a job
 pub part-inside : (b : List ℕ) → length b ≡ 4 * wordsDue (headerOf b) → (part : Part) → 4 * (start (headerOf b) part + words (headerOf b) part) ≤ length b

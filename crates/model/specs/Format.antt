@@ -1,15 +1,28 @@
 -- "The job's words" as one table: for an edition, each part of a job with the number of its items and the limits of their words.
 use Prim.Native.Nat.{ℕ, _+_, _-_, _*_, _/_}
 use mathlib.Core.{Bool.Bool, List.List, List.[], List._∷_, Option.Option, Option.none}
-use lib.{IntN.ℤ, IntN.pos, IntN._*ℤ_, Signed.leZ, ListN.length, ListN.take, ListN.drop}
+use lib.{IntN.ℤ, IntN.pos, IntN._*ℤ_, Signed.leZ, ListN.length, ListN.take, ListN.drop, Dec.ltb}
 use Rattle.exact.specs.Choice.{if_then_else_, between, orElse}
-use Rattle.words.specs.{Words.countAt, Fields.Field, Fields.Layout, Fields.free, Fields.range, Fields.within, Fields.oneOf, Fields.given, Fields.both, Fields._of_, Fields.wordsIn, Fields.moved, Fields.misfit}
-use Rattle.model.specs.declared.{Edition.the-variants.First, Header.Header, Part.Part, Part.the-variants.Head, Part.the-variants.Line, Part.the-variants.Transverse, Part.the-variants.Effects, Part.the-variants.Rows, Part.the-variants.Records}
+use Rattle.words.specs.{Words.wordAt, Words.countAt, Fields.Field, Fields.Layout, Fields.free, Fields.range, Fields.within, Fields.oneOf, Fields.given, Fields.numbered, Fields.both, Fields._of_, Fields.wordsIn, Fields.moved, Fields.misfit}
+use Rattle.model.specs.declared.{Edition.Edition, Edition.the-variants.First, Edition.the-variants.Fourth, Header.Header, Part.Part, Part.the-variants.Head, Part.the-variants.Line, Part.the-variants.Transverse, Part.the-variants.Effects, Part.the-variants.Rows, Part.the-variants.Records}
+
+-- x is m
+abbrev pub is : ℕ → ℤ → Bool
+is m x = between (pos m) (pos m) x
+
+-- the number of an edition, word 0
+abbrev pub editionNumber : Edition → ℕ
+editionNumber First = 1
+editionNumber Fourth = 4
+
+-- the edition that word 0 names; where it names none, refusal 1 says so
+abbrev pub editionOf : ℤ → Edition
+editionOf x = if is (editionNumber Fourth) x then Fourth else First
 
 -- the header, read once
 abbrev pub headerOf : List ℕ → Header
 headerOf b = record {
-  edition = First;  -- the only one; refusal 1 tests word 0
+  edition = editionOf (wordAt b 0);
   h = countAt b 1;  -- piece length in dm
   pieces = countAt b 2;  -- N
   spacing = countAt b 3;  -- g, transverse spacing in cm
@@ -20,10 +33,6 @@ headerOf b = record {
   rows = countAt b 8;  -- R
   records = countAt b 9;  -- C
 }
-
--- x is m
-abbrev pub is : ℕ → ℤ → Bool
-is m x = between (pos m) (pos m) x
 
 -- h, a piece's length in dm
 abbrev pub pieceLength : Field
@@ -49,6 +58,25 @@ dynamicFits kind value =
 abbrev pub spaces : ℕ → ℕ → ℕ
 spaces w g = (w + g - 1) / g
 
+-- the header's words from word 7 on, by edition
+abbrev pub tableCounts : Edition → List Field
+tableCounts First =
+    range 0 16  -- E
+    ∷ range 1 32  -- R
+    ∷ range 0 512  -- C
+    ∷ []
+tableCounts Fourth =
+    range 11 11  -- E: DL, EP, OW, SG, ST, TP, HE, WD, FW, EQ, CN
+    ∷ range 0 0  -- R: the rows are built in
+    ∷ range 0 0  -- C
+    ∷ range 1 3  -- barriers: 1 none, 2 pedestrian, 3 traffic
+    ∷ []
+
+-- an effect's mark, 1 always present, 2 may be left out; a rural bridge's DL, EP and OW have 1, the others 2
+abbrev pub mark : Edition → Field
+mark First = range 1 2
+mark Fourth = numbered (λ i. let m = if ltb i 3 then 1 else 2 in range m m)
+
 -- the table: so many items of these fields, a line a word
 abbrev pub format : Header → Part → Layout
 format head Head = 1 of
@@ -59,17 +87,14 @@ format head Head = 1 of
     ∷ range 300 2079  -- W
     ∷ range 1 3  -- dynamic kind
     ∷ given 5 (λ kind item value. dynamicFits kind value)  -- dynamic value
-    ∷ range 0 16  -- E
-    ∷ range 1 32  -- R
-    ∷ range 0 512  -- C
-    ∷ []
+    ∷ tableCounts (head .edition)  -- E, R, C and what the edition adds
 format head Line = lineLayout (head .pieces)
 format head Transverse = spaces (head .width) (head .spacing) + 1 of
     within 1000  -- ordinate in thousandths, the first at the left kerb
     ∷ []
 format head Effects = head .effects of
     within 1000000000  -- value in kN·U
-    ∷ range 1 2  -- 1 always present, 2 may be left out
+    ∷ mark (head .edition)  -- whether it may be left out
     ∷ []
 format head Rows = head .rows of
     range 1 2  -- 1 service, 2 ultimate
@@ -94,9 +119,13 @@ before Records = Head ∷ Line ∷ Transverse ∷ Effects ∷ Rows ∷ []
 
 -- ---- all else, for any table
 
--- the words of an item of a part, whatever the header's counts
+-- an edition 1 header without counts
+abbrev noCounts : Header
+noCounts = record { edition = First; h = 0; pieces = 0; spacing = 0; width = 0; kind = 0; value = 0; effects = 0; rows = 0; records = 0 }
+
+-- the words of an item of a part, whatever the counts, in edition 1; in edition 4 the header alone has others
 abbrev pub size : Part → ℕ
-size part = length (format (headerOf []) part .fields)
+size part = length (format noCounts part .fields)
 
 -- and its bytes
 abbrev pub bytes : Part → ℕ

@@ -2,6 +2,7 @@ pub mod Job
 pub mod Format
 pub mod Chains
 pub mod Dynamic
+pub mod RuralBridges
 pub mod Decode
 pub mod Refusals
 pub mod Line
