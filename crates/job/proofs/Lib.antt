@@ -1,3 +1,4 @@
+pub mod Frames
 pub mod Faults
 pub mod Rulings
 pub mod Linked

@@ -1,6 +1,6 @@
 -- What a test finds and what is ruled, as the definitions have them.
 use mathlib.Core.Path.{_≡_}
-use Prim.Native.Nat.{ℕ, _-_, _≤_, _<_}
+use Prim.Native.Nat.{ℕ, _≤_, _<_}
 use mathlib.Core.Option.{Option, none, some}
 use mathlib.Core.List.{List}
 use lib.Dec.{eqb}
@@ -27,12 +27,12 @@ pub record Rules (r : Ruling) (verdict : Option Refusal) : Type 0 where
   pub says : rulingOf r ≡ verdict
   pub blank : r .number ≡ 0 → r .place ≡ 0
 
--- a job's test of a number
+-- a job's test at a step of their order, from 0
 abbrev pub testOf : List ℕ → ℕ → Test
-testOf b number = getD (jobTests b) (number - 1) (0 finds none)
+testOf b step = getD (jobTests b) step (0 finds none)
 
--- the header is the job's own, and none of the tests before a number from 2 on finds a place
-pub record Passed (b : List ℕ) (head : Header) (number : ℕ) : Type 0 where
+-- the header is the job's own, and none of the tests before a step from 1 on finds a place
+pub record Passed (b : List ℕ) (head : Header) (step : ℕ) : Type 0 where
   pub own : head ≡ headerOf b
-  pub first : 2 ≤ number
-  pub clear : (n : ℕ) → 1 ≤ n → n < number → testOf b n .found ≡ none
+  pub first : 1 ≤ step
+  pub clear : (n : ℕ) → n < step → testOf b n .found ≡ none

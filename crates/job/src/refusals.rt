@@ -1,12 +1,16 @@
 // The refusals of a job, each the lowest place at fault, and the verdict.
 ghost use mathlib.Core.Path.{_≡_};
+ghost use mathlib.Core.Bool.{_&&_};
+ghost use mathlib.Core.List.{List};
 ghost use mathlib.Core.Option.{none, some};
-ghost use Prim.Native.Nat.{ℕ, _≤_, _<_};
+ghost use Prim.Native.Nat.{ℕ, _*_, _≤_, _<_};
+ghost use lib.Dec.{leb};
 ghost use lib.ListN.{length};
 ghost use Rattle.exact.specs.Choice.{orElse};
+ghost use Rattle.words.specs.Words.{wordAt};
 ghost use Rattle.words.specs.Fields.{moved};
-ghost use Rattle.model.specs.Format.{headerOf, bytes, words, start, fault};
-ghost use Rattle.model.specs.Refusals.{fault1, fault2, fault3, fault4, fault5, fault6, rowFault, jobVerdict};
+ghost use Rattle.model.specs.Format.{is, editionNumber, headerOf, bytes, words, start, fault};
+ghost use Rattle.model.specs.Refusals.{fault1, fault2, fault3, fault4, fault5, fault6, fault11, rowFault, jobVerdict};
 ghost use Rattle.model.specs.declared.Part.the-variants.{Head, Line};
 ghost use Rattle.sections.specs.Sized.{Counted, Sized};
 ghost use Rattle.limits.specs.Faults.{placeOf};
@@ -31,7 +35,22 @@ pub struct Ruling {
     pub place: u32,
 }
 
-// 1: under 10 words, a byte count not divisible by 4, or word 0 not 1.
+// Word 0 names an edition, and the words of its header are there, ten being there in any case.
+fn has_edition(s: &[u8]) -> bool
+    requires { ⌜ bytes Head ≤ length (now s) ⌝ }
+    ensures { λ r. ⌜ r ≡ (leb (4 * words (headerOf (now (s .entry))) Head) (length (now (s .entry))) && is (editionNumber (headerOf (now (s .entry)) .edition)) (wordAt (now (s .entry)) 0)) ⌝ }
+{
+    let edition = words::word(s, 0);
+    if edition == model::RURAL_EDITION {
+        return 4 * model::RURAL_HEADER_WORDS <= s.len();
+    }
+    if edition == model::FIRST_EDITION {
+        return true;
+    }
+    false
+}
+
+// 1: fewer words than the header has, a byte count not divisible by 4, or word 0 no edition.
 fn frame(s: &[u8]) -> Finding
     ensures { λ r. ⌜ findingOf r ≡ fault1 (now (s .entry)) ⌝ }
 {
@@ -41,15 +60,15 @@ fn frame(s: &[u8]) -> Finding
     if s.len() % 4 != 0 {
         return Finding::At(0);
     }
-    if words::word(s, 0) != 1 {
-        return Finding::At(0);
+    if has_edition(s) {
+        return Finding::Nothing;
     }
-    Finding::Nothing
+    Finding::At(0)
 }
 
 // 2: a header word outside its limits.
 fn limits(s: &[u8], head: Header) -> Finding
-    requires { ⌜ (head ≡ headerOf (now s)) × (bytes Head ≤ length (now s)) ⌝ }
+    requires { ⌜ (head ≡ headerOf (now s)) × (4 * words head Head ≤ length (now s)) ⌝ }
     ensures { λ r. ⌜ findingOf r ≡ fault2 (now (s .entry)) ⌝ }
 {
     let own = limits::header_misfit(header::section(s, head), head);
@@ -80,6 +99,15 @@ fn in_job(head: Header, part: Part, own: Fault) -> Finding
         Fault::At(p) => Finding::At((sections::start(head, part) + p) as u32),
         Fault::Clear => Finding::Nothing,
     }
+}
+
+// 11: a clear width outside its barriers' band.
+fn width(s: &[u8], head: Header) -> Finding
+    requires { ⌜ (head ≡ headerOf (now s)) × Counted head × (4 * words head Head ≤ length (now s)) ⌝ }
+    ensures { λ r. ⌜ findingOf r ≡ fault11 (now (s .entry)) ⌝ }
+{
+    let own = limits::width_misfit(header::section(s, head), head);
+    in_job(head, Part::Head, own)
 }
 
 // The lowest place at fault in a part.
@@ -141,17 +169,30 @@ fn table(s: &[u8], head: Header) -> Finding
     )
 }
 
-// What the test of a number from 2 to 6 finds, those before it having found nothing.
-fn found(s: &[u8], head: Header, number: u32) -> Finding
-    requires { ⌜ Passed (now s) head number × (number ≤ 6) ⌝ }
-    ensures { λ r. ⌜ findingOf r ≡ testOf (now (s .entry)) number .found ⌝ }
+// What the test at a step from 1 to 6 finds, those before it having found nothing.
+fn found(s: &[u8], head: Header, step: u32) -> Finding
+    requires { ⌜ Passed (now s) head step × (step ≤ 6) ⌝ }
+    ensures { λ r. ⌜ findingOf r ≡ testOf (now (s .entry)) step .found ⌝ }
 {
-    match number {
-        2 => limits(s, head),
+    match step {
+        1 => limits(s, head),
+        2 => width(s, head),
         3 => count(s, head),
         4 => ordinates(s, head),
         5 => signs(s, head),
         _ => table(s, head),
+    }
+}
+
+// The number of that test: 2, then 11, then 3 to 6.
+fn number(step: u32) -> u32
+    requires { ⌜ (1 ≤ step) × (step ≤ 6) ⌝ }
+    ensures { λ r. ⌜ (1 ≤ r) × ((b : List ℕ) → r ≡ testOf b step .number) ⌝ }
+{
+    match step {
+        1 => 2,
+        2 => 11,
+        _ => step,
     }
 }
 
@@ -186,7 +227,7 @@ fn by_chains(s: &[u8], head: Header) -> Ruling
     }
 }
 
-// The lowest number, then the lowest place.
+// The first test that finds a place, and its lowest.
 pub fn verdict(s: &[u8]) -> Ruling
     ensures { λ r. ⌜ Rules r (jobVerdict (now (s .entry))) ⌝ }
 {
@@ -195,10 +236,13 @@ pub fn verdict(s: &[u8]) -> Ruling
         return Ruling { number: 1, place };
     }
     let head = header::read(s);
-    for number in 2..7 {
-        let fault = found(s, head, number);
+    for step in 1..7 {
+        let fault = found(s, head, step);
         if let Finding::At(place) = fault {
-            return Ruling { number, place };
+            return Ruling {
+                number: number(step),
+                place,
+            };
         }
     }
     by_chains(s, head)

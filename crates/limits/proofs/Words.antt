@@ -1,18 +1,15 @@
 -- A word's test as the code runs it.
-use mathlib.Core.Path.{_≡_, refl, sym, _∙_, ap, subst}
-use mathlib.Core.Bool.{Bool, true, false, _&&_, and-eq-true-iff}
+use mathlib.Core.Path.{_≡_, refl, sym, ap, subst}
+use mathlib.Core.Bool.{Bool, true, false, _&&_}
 use Prim.Native.Nat.{ℕ, _≤_, _<_}
 use native.Mathlib.Omega.{arith}
 use lib.Dec.{T, leb}
 use lib.IntN.{ℤ, pos, negsuc, negℤ, natAbs, _-ℤ_}
 use lib.Signed.{ltZ, leZ}
-use mir.Syntax.{w64}
-use mir.Val.{ofZ}
 use borrow.Author.Tests.{le-leb, lt-leb}
 use Rattle.exact.specs.Choice.{between}
 use Rattle.exact.proofs.Bridge.{by-test, subbed, up-neg, dn-neg, ℕ→≡}
-use Rattle.exact.proofs.Tests.{lt-is, lt-not, le-is, le-not}
-use Rattle.model.specs.Format.{is}
+use Rattle.exact.proofs.Tests.{lt-is, lt-not, le-not}
 
 -- below 0 is below any count
 pub range-below : (lo hi : ℕ) (z : ℤ) → ltZ z (pos 0) ≡ true → false ≡ between (pos lo) (pos hi) z
@@ -35,12 +32,3 @@ zero-less m = ℕ→≡ _ _ (omega (arith, subbed (pos 0) m, up-neg m, dn-neg m)
 -- what is not below is at least
 pub at-least : (x y : ℤ) → ltZ x y ≡ false → leZ y x ≡ true
 at-least x y e = by-test (leZ y x) (λ t. t ≡ true) (λ _. refl) (λ f. absurd (omega (arith, le-not y x f, lt-not x y e)))
-
-is-same : (m : ℕ) (z : ℤ) → is m z ≡ true → z ≡ pos m
-is-same m z t =
-    let b = and-eq-true-iff (leZ (pos m) z) (leZ z (pos m)) .0 t in
-    ℕ→≡ z (pos m) (omega (arith, le-is (pos m) z (b .0), le-is z (pos m) (b .1)))
-
--- `z == m` failed, of a z that a call returned for x
-pub is-failed : (m : ℕ) {z x : ℤ} → z ≡ x → (ofZ w64 z ≡ ofZ w64 (pos m) → ⊥) → is m x ≡ false
-is-failed m {z} e d = ap (is m) (sym e) ∙ by-test (is m z) (λ t. t ≡ false) (λ t. absurd (d (ap (ofZ w64) (is-same m z t)))) (λ _. refl)

@@ -3,15 +3,19 @@ ghost use mathlib.Core.Path.{_≡_};
 ghost use mathlib.Core.Option.{some};
 ghost use Prim.Native.Nat.{_+_, _*_, _≤_, _<_};
 ghost use lib.IntN.{pos, negℤ};
-ghost use lib.ListN.{length, drop};
+ghost use lib.Dec.{ltb};
+ghost use lib.ListN.{length};
 ghost use Rattle.exact.specs.Bounds.{Within};
 ghost use Rattle.exact.specs.Choice.{if_then_else_, between};
 ghost use Rattle.words.specs.Words.{wordAt};
 ghost use Rattle.words.specs.Fields.{admits, misfitFrom, itemFrom, misfit};
-ghost use Rattle.model.specs.Format.{is, pieceLength, pieceCount, dynamicFits, format, size, bytes, words};
+ghost use Rattle.model.specs.Format.{is, pieceLength, pieceCount, dynamicFits, tableCounts, mark, format, size, bytes, words};
+ghost use Rattle.model.specs.Refusals.{clearWidth, widthTest};
+ghost use Rattle.model.specs.declared.Edition.the-variants.{First, Fourth};
 ghost use Rattle.model.specs.declared.Part.the-variants.{Head, Line, Transverse, Effects, Rows, Records};
 ghost use Rattle.sections.specs.Sized.{Counted};
 ghost use Rattle.limits.specs.Faults.{placeOf};
+use model::Edition;
 use model::Header;
 use model::Part;
 
@@ -106,29 +110,74 @@ fn dynamic_fits(s: &[u8]) -> bool
     in_range(s, 6, 0, 5000)
 }
 
-// The field at fault among the header's words 6 to 9: dynamic value, E, R, C.
-fn counts_misfit(s: &[u8], head: Header) -> Fault
+// Edition 1's words from 7 on: E, R, C.
+fn listed_counts(s: &[u8]) -> Fault
     requires { ⌜ bytes Head ≤ length (now s) ⌝ }
-    ensures { λ r. ⌜ placeOf r ≡ misfitFrom 6 (drop 6 (format head Head .fields)) (itemFrom (now (s .entry)) 0 0) ⌝ }
+    ensures { λ r. ⌜ placeOf r ≡ misfitFrom 7 (tableCounts First) (itemFrom (now (s .entry)) 0 0) ⌝ }
 {
     let records = field(9, in_range(s, 9, 0, 512), Fault::Clear);
     let rows = field(8, in_range(s, 8, 1, 32), records);
-    let effects = field(7, in_range(s, 7, 0, 16), rows);
-    field(6, dynamic_fits(s), effects)
+    field(7, in_range(s, 7, 0, 16), rows)
+}
+
+// Edition 4's: its eleven effects, no rows or records of its own, barriers.
+fn rural_counts(s: &[u8]) -> Fault
+    requires { ⌜ 44 ≤ length (now s) ⌝ }
+    ensures { λ r. ⌜ placeOf r ≡ misfitFrom 7 (tableCounts Fourth) (itemFrom (now (s .entry)) 0 0) ⌝ }
+{
+    let barriers = field(10, in_range(s, 10, 1, 3), Fault::Clear);
+    let records = field(9, in_range(s, 9, 0, 0), barriers);
+    let rows = field(8, in_range(s, 8, 0, 0), records);
+    field(7, in_range(s, 7, 11, 11), rows)
+}
+
+// The field at fault among the header's words from 7 on.
+fn counts_misfit(s: &[u8], head: Header) -> Fault
+    requires { ⌜ 4 * words head Head ≤ length (now s) ⌝ }
+    ensures { λ r. ⌜ placeOf r ≡ misfitFrom 7 (tableCounts (head .edition)) (itemFrom (now (s .entry)) 0 0) ⌝ }
+{
+    let edition = head.edition;
+    match edition {
+        Edition::First => listed_counts(s),
+        Edition::Fourth => rural_counts(s),
+    }
 }
 
 // The header's field at fault; its edition is tested before.
 pub fn header_misfit(s: &[u8], head: Header) -> Fault
-    requires { ⌜ bytes Head ≤ length (now s) ⌝ }
+    requires { ⌜ 4 * words head Head ≤ length (now s) ⌝ }
     ensures { λ r. ⌜ placeOf r ≡ misfitFrom 0 (format head Head .fields) (itemFrom (now (s .entry)) 0 0) ⌝ }
 {
-    let counts = counts_misfit(s, head);
-    let kind = field(5, in_range(s, 5, 1, 3), counts);
+    let value = field(6, dynamic_fits(s), counts_misfit(s, head));
+    let kind = field(5, in_range(s, 5, 1, 3), value);
     let width = field(4, in_range(s, 4, 300, 2079), kind);
     let spacing = field(3, in_range(s, 3, 10, 50), width);
     let h = words::word(s, 1);
     let pieces = field(2, pieces_fit(h, words::word(s, 2)), spacing);
     field(1, length_fits(h), pieces)
+}
+
+// A rural bridge's clear width, for its barriers.
+fn clear_width(s: &[u8]) -> bool
+    requires { ⌜ 44 ≤ length (now s) ⌝ }
+    ensures { λ r. ⌜ r ≡ clearWidth (wordAt (now (s .entry)) 10) (itemFrom (now (s .entry)) 0 0) (wordAt (now (s .entry)) 4) ⌝ }
+{
+    if words::word(s, 10) == 3 {
+        return in_range(s, 4, 370, 430);
+    }
+    in_range(s, 4, 300, 370)
+}
+
+// The header's width where it is outside its barriers' band.
+pub fn width_misfit(s: &[u8], head: Header) -> Fault
+    requires { ⌜ 4 * words head Head ≤ length (now s) ⌝ }
+    ensures { λ r. ⌜ placeOf r ≡ misfitFrom 0 (widthTest (head .edition)) (itemFrom (now (s .entry)) 0 0) ⌝ }
+{
+    let edition = head.edition;
+    match edition {
+        Edition::First => Fault::Clear,
+        Edition::Fourth => field(4, clear_width(s), Fault::Clear),
+    }
 }
 
 // A piece: left and right ordinate.
@@ -149,13 +198,38 @@ fn transverse_misfit(s: &[u8], head: Header, i: usize) -> Fault
     field(0, within(s, i, 1000), Fault::Clear)
 }
 
+// The mark of a rural bridge's effect i: 1 for the first three, 2 for the others.
+fn rural_mark(i: usize) -> usize
+    ensures { λ r. ⌜ r ≡ (if ltb i 3 then 1 else 2) ⌝ }
+{
+    if i < 3 {
+        return 1;
+    }
+    2
+}
+
+// The mark of effect i, at word p.
+fn mark_fits(s: &[u8], head: Header, i: usize, p: usize) -> bool
+    requires { ⌜ 4 * p + 4 ≤ length (now s) ⌝ }
+    ensures { λ r. ⌜ r ≡ mark (head .edition) (itemFrom (now (s .entry)) (size Effects * i) i) (wordAt (now (s .entry)) p) ⌝ }
+{
+    let edition = head.edition;
+    match edition {
+        Edition::First => in_range(s, p, 1, 2),
+        Edition::Fourth => {
+            let m = rural_mark(i);
+            in_range(s, p, m, m)
+        }
+    }
+}
+
 // An effect: value, mark.
 fn effect_misfit(s: &[u8], head: Header, i: usize) -> Fault
     requires { ⌜ bytes Effects * i + bytes Effects ≤ length (now s) ⌝ }
     ensures { λ r. ⌜ placeOf r ≡ misfitFrom 0 (format head Effects .fields) (itemFrom (now (s .entry)) (size Effects * i) i) ⌝ }
 {
     let p = model::EFFECT_WORDS * i;
-    let mark = field(1, in_range(s, p + 1, 1, 2), Fault::Clear);
+    let mark = field(1, mark_fits(s, head, i, p + 1), Fault::Clear);
     field(0, within(s, p, 1000000000), mark)
 }
 

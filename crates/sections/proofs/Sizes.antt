@@ -13,7 +13,7 @@ use Rattle.model.specs.declared.Part.the-variants.{Head, Line, Transverse, Effe
 use Rattle.model.specs.Refusals.{fault1, fault2, fault3}
 use Rattle.model.proofs.HeaderLimits.{header-fits}
 use Rattle.model.proofs.Sections.{section-length}
-use Rattle.model.proofs.Verdict.{size-fits, part-inside}
+use Rattle.model.proofs.Verdict.{header-short, size-fits, part-inside}
 use Rattle.sections.specs.Sized.{Counted, Sized}
 
 -- a job without faults 1 to 3 has the bytes that its header calls for
@@ -39,8 +39,8 @@ pub few-spaces : {head : Header} → Counted head → spaces (head .width) (head
 few-spaces {head} c = let l : head .width + head .spacing - 1 < 2080 * head .spacing = omega (arith, c .spaced, c .width) in div-lt-iff-lt-mul (c .spaced) .1 l
 
 -- no part has more words than its counts allow
-pub few-words : (head : Header) (part : Part) → Counted head → {p : ℕ} → p < words head part → p ≤ 20800
-few-words head Head c h = omega arith
+pub few-words : (head : Header) (part : Part) → Counted head → {p : ℕ} → p < words head part → p ≤ 22880
+few-words head Head c h = omega (arith, header-short head)
 few-words head Line c h = omega arith
 few-words head Transverse c h = let s = few-spaces c in omega arith
 few-words head Effects c h = omega arith

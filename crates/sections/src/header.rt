@@ -1,11 +1,23 @@
 // A job's header: its words as counts, and its own bytes.
 ghost use mathlib.Core.Path.{_≡_};
-ghost use Prim.Native.Nat.{_≤_};
+ghost use Prim.Native.Nat.{_*_, _≤_};
 ghost use lib.ListN.{length};
-ghost use Rattle.model.specs.Format.{headerOf, bytes, section};
+ghost use Rattle.words.specs.Words.{wordAt};
+ghost use Rattle.model.specs.Format.{editionOf, headerOf, format, bytes, words, section};
 ghost use Rattle.model.specs.declared.Part.the-variants.{Head};
 use model::Edition;
 use model::Header;
+
+// The edition that word 0 names.
+fn edition(s: &[u8]) -> Edition
+    requires { ⌜ bytes Head ≤ length (now s) ⌝ }
+    ensures { λ r. ⌜ r ≡ editionOf (wordAt (now (s .entry)) 0) ⌝ }
+{
+    if words::word(s, 0) == model::RURAL_EDITION {
+        return Edition::Fourth;
+    }
+    Edition::First
+}
 
 // Its words as counts.
 pub fn read(s: &[u8]) -> Header
@@ -13,7 +25,7 @@ pub fn read(s: &[u8]) -> Header
     ensures { λ r. ⌜ r ≡ headerOf (now (s .entry)) ⌝ }
 {
     Header {
-        edition: Edition::First,
+        edition: edition(s),
         h: words::count(s, 1),
         pieces: words::count(s, 2),
         spacing: words::count(s, 3),
@@ -26,10 +38,21 @@ pub fn read(s: &[u8]) -> Header
     }
 }
 
+// How many words it has, by its edition.
+pub fn size(head: Header) -> usize
+    ensures { λ r. ⌜ (r ≡ length (format head Head .fields)) × (r ≤ 11) ⌝ }
+{
+    let edition = head.edition;
+    match edition {
+        Edition::First => model::HEADER_WORDS,
+        Edition::Fourth => model::RURAL_HEADER_WORDS,
+    }
+}
+
 // Its own bytes, whatever its words say.
 pub fn section(s: &[u8], head: Header) -> &[u8]
-    requires { ⌜ bytes Head ≤ length (now s) ⌝ }
+    requires { ⌜ 4 * words head Head ≤ length (now s) ⌝ }
     ensures { λ r. ⌜ now r ≡ section (now (s .entry)) head Head ⌝ }
 {
-    &s[0..4 * model::HEADER_WORDS]
+    &s[0..4 * size(head)]
 }

@@ -11,10 +11,10 @@ use model::Part;
 
 // The words of an item.
 pub fn item_words(head: Header, part: Part) -> usize
-    ensures { λ r. ⌜ (r ≡ length (format head part .fields)) × (r ≤ 10) ⌝ }
+    ensures { λ r. ⌜ (r ≡ length (format head part .fields)) × (r ≤ 11) ⌝ }
 {
     match part {
-        Part::Head => model::HEADER_WORDS,
+        Part::Head => header::size(head),
         Part::Line => model::PIECE_WORDS,
         Part::Transverse => 1,
         Part::Effects => model::EFFECT_WORDS,
@@ -45,7 +45,7 @@ pub fn items(head: Header, part: Part) -> usize
 // A part's words.
 fn words(head: Header, part: Part) -> usize
     requires { ⌜ Counted head ⌝ }
-    ensures { λ r. ⌜ (r ≡ words head part) × (r ≤ 20800) ⌝ }
+    ensures { λ r. ⌜ (r ≡ words head part) × (r ≤ 22880) ⌝ }
 {
     item_words(head, part) * items(head, part)
 }
@@ -53,7 +53,7 @@ fn words(head: Header, part: Part) -> usize
 // Each part starts where the one before it ends.
 pub fn start(head: Header, part: Part) -> usize
     requires { ⌜ Counted head ⌝ }
-    ensures { λ r. ⌜ (r ≡ start head part) × (r ≤ 104000) ⌝ }
+    ensures { λ r. ⌜ (r ≡ start head part) × (r ≤ 114400) ⌝ }
 {
     let line = words(head, Part::Head);
     let transverse = line + words(head, Part::Line);
@@ -73,7 +73,7 @@ pub fn start(head: Header, part: Part) -> usize
 // The word count that the header calls for.
 pub fn words_due(head: Header) -> usize
     requires { ⌜ Counted head ⌝ }
-    ensures { λ r. ⌜ (r ≡ wordsDue head) × (r ≤ 124800) ⌝ }
+    ensures { λ r. ⌜ (r ≡ wordsDue head) × (r ≤ 137280) ⌝ }
 {
     start(head, Part::Records) + words(head, Part::Records)
 }

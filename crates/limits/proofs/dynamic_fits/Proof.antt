@@ -2,7 +2,7 @@ use borrow.Author.Needs.{needs}
 use lib.Dec.{lit<}
 use mir.Syntax.{w64}
 use Rattle.exact.proofs.Held.{got, lit, eq-yes}
-use Rattle.limits.proofs.Words.{is-failed}
+use Rattle.sections.proofs.Tests.{is-failed}
 use Rattle.limits.proofs.dynamic_fits.Statement.{statement}
 use Rattle.limits.proofs.dynamic_fits.Tie as tie
 

@@ -13,7 +13,7 @@ returns c =
       c .field2 .ensures,
       c .before .within .ensures,
       c .before .before .field .ensures,
-      c .before .before .before .in-range .ensures,
+      c .before .before .before .mark-fits .ensures,
       add-zero (size Effects * c .before .before .before .before .before .args .i),
     )
     refl

@@ -1,9 +1,11 @@
 use mathlib.Core.Path.{_≡_, subst}
 use Prim.Native.Nat.{_*_, _≤_, _<_}
+use native.Mathlib.Nat.{mul-zero}
 use native.Mathlib.Omega.{arith}
 use lib.ListN.{length}
 use Rattle.model.specs.Format.{format, words}
 use Rattle.model.specs.declared.Part.{Part}
+use Rattle.model.specs.declared.Part.the-variants.{Head}
 use borrow.Author.Needs.{needs}
 use Rattle.limits.proofs.item_misfit.Statement.{statement}
 use Rattle.limits.proofs.item_misfit.Tie as tie
@@ -46,7 +48,7 @@ returns : tie.Need-returns
 returns c =
     let st = c .before .before .before .before in
     let only : st .args .i ≡ 0 = omega (arith, inside st (c .before .enum-told .given .1)) in
-    rw (c .before .enum-told .given .1, only) (c .header-misfit .ensures)
+    rw (c .before .enum-told .given .1, only, mul-zero (length (format (st .args .head) Head .fields))) (c .header-misfit .ensures)
 
 returns-2 : tie.Need-returns-2
 returns-2 c = rw (c .before .enum-told2 .given .1) (c .piece-misfit .ensures)

@@ -2,7 +2,7 @@ use mathlib.Core.Path.{_≡_, refl}
 use lib.Dec.{lit<}
 use mir.Syntax.{w64}
 use Rattle.exact.proofs.Held.{any, lit, eq-yes}
-use Rattle.limits.proofs.Words.{is-failed}
+use Rattle.sections.proofs.Tests.{is-failed}
 use Rattle.limits.proofs.length_fits.Statement.{statement}
 use Rattle.limits.proofs.length_fits.Tie as tie
 

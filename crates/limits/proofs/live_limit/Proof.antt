@@ -3,7 +3,7 @@ use mathlib.Core.Path.{refl}
 use lib.Dec.{lit<}
 use mir.Syntax.{w64}
 use Rattle.exact.proofs.Held.{got, lit, eq-yes}
-use Rattle.limits.proofs.Words.{is-failed}
+use Rattle.sections.proofs.Tests.{is-failed}
 use Rattle.limits.proofs.live_limit.Statement.{statement}
 use Rattle.limits.proofs.live_limit.Tie as tie
 

@@ -5,7 +5,7 @@ use Rattle.sections.proofs.item_words.Statement.{statement}
 use Rattle.sections.proofs.item_words.Tie as tie
 
 returns : tie.Need-returns
-returns c = rw (c .enum-told .given .1) (refl, omega arith)
+returns c = rw (c .before .enum-told .given .1) (c .size .ensures)
 
 returns-2 : tie.Need-returns-2
 returns-2 c = rw (c .enum-told2 .given .1) (refl, omega arith)
@@ -25,4 +25,4 @@ returns-6 c = rw (c .enum-told6 .given .1) (refl, omega arith)
 pub item-words-spec : {M : Type 1} → statement M
 item-words-spec =
     tie.close
-    (tie.spec (λ c. search needs) (λ c. search needs) (λ c. search needs) (λ c. search needs) (λ c. search needs) (λ c. search needs) returns returns-2 returns-3 returns-4 returns-5 returns-6)
+    (tie.spec (λ c. search needs) (λ c κs. search needs) (λ c. search needs) (λ c. search needs) (λ c. search needs) (λ c. search needs) (λ c. search needs) returns returns-2 returns-3 returns-4 returns-5 returns-6)

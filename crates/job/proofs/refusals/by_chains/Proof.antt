@@ -22,7 +22,7 @@ returns : tie.Need-returns
 unfolding jobTests fault7
 returns c =
     let k = c .before .before .before in
-    ruled 7 _ (omega arith) (refuses (first k .before .before .pre) (omega arith) _ (sym (k .defective2 .ensures) ∙ ap findingOf (c .before .returning .given .1)))
+    ruled 7 _ (omega arith) (refuses (first k .before .before .pre) refl _ (sym (k .defective2 .ensures) ∙ ap findingOf (c .before .returning .given .1)))
 
 returns-2 : tie.Need-returns-2
 unfolding jobTests fault7
@@ -30,7 +30,7 @@ returns-2 c =
     let k = c .before .before in
     let c7 = sym (k .defective2 .ensures) ∙ ap findingOf (c .enum-told .given .1) in
     let c8 = repeats-alone _ c7 ∙ sym (first k .defective .ensures) ∙ ap findingOf (k .before .before .repeating .given .1) in
-    ruled 8 _ (omega arith) (refuses (goes-on (first k .before .before .pre) c7) (omega arith) _ c8)
+    ruled 8 _ (omega arith) (refuses (goes-on (first k .before .before .pre) c7) refl _ c8)
 
 returns-3 : tie.Need-returns-3
 unfolding jobTests

@@ -6,6 +6,7 @@ use Rattle.sections.proofs.header.read.Tie as tie
 returns : tie.Need-returns
 returns c =
     rw (
+      c .before .before .before .before .before .before .before .before .before .edition .ensures,
       c .before .before .before .before .before .before .before .before .count .ensures .0,
       c .before .before .before .before .before .before .before .count2 .ensures .0,
       c .before .before .before .before .before .before .count3 .ensures .0,
@@ -21,4 +22,4 @@ returns c =
 pub read-spec : {M : Type 1} → statement M
 read-spec =
     tie.close
-    (tie.spec (λ c κs. search needs) (λ c κs. search needs) (λ c κs. search needs) (λ c κs. search needs) (λ c κs. search needs) (λ c κs. search needs) (λ c κs. search needs) (λ c κs. search needs) (λ c κs. search needs) returns)
+    (tie.spec (λ c κs. search needs) (λ c κs. search needs) (λ c κs. search needs) (λ c κs. search needs) (λ c κs. search needs) (λ c κs. search needs) (λ c κs. search needs) (λ c κs. search needs) (λ c κs. search needs) (λ c κs. search needs) returns)

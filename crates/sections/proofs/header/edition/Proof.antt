@@ -1,0 +1,17 @@
+use mathlib.Core.Path.{refl}
+use lib.Dec.{lit<}
+use mir.Syntax.{w64}
+use borrow.Author.Needs.{needs}
+use Rattle.exact.proofs.Held.{got, lit, eq-yes}
+use Rattle.sections.proofs.Tests.{is-failed}
+use Rattle.sections.proofs.header.edition.Statement.{statement}
+use Rattle.sections.proofs.header.edition.Tie as tie
+
+returns : tie.Need-returns
+returns c = rw (eq-yes (got w64 (c .before .word .ok) (c .before .word .ensures)) (lit w64 4 (lit< tt)) (c .if1 .taken)) refl
+
+returns-2 : tie.Need-returns-2
+returns-2 c = rw (is-failed 4 (c .before .word .ensures .0) (c .if1 .left)) refl
+
+pub edition-spec : {M : Type 1} → statement M
+edition-spec = tie.close (tie.spec (λ c κs. search needs) returns returns-2)

@@ -1,0 +1,14 @@
+use mathlib.Core.Path.{refl}
+use native.Mathlib.Omega.{arith}
+use borrow.Author.Needs.{needs}
+use Rattle.sections.proofs.header.size.Statement.{statement}
+use Rattle.sections.proofs.header.size.Tie as tie
+
+returns : tie.Need-returns
+returns c = rw (c .enum-told .given .1) (refl, omega arith)
+
+returns-2 : tie.Need-returns-2
+returns-2 c = rw (c .enum-told2 .given .1) (refl, omega arith)
+
+pub size-spec : {M : Type 1} → statement M
+size-spec = tie.close (tie.spec (λ c. search needs) (λ c. search needs) returns returns-2)
