@@ -1,26 +1,29 @@
 -- The elements chosen for a kind: their values, and in a job that each gives its lane's best.
 use mathlib.Core.Path.{_≡_, refl, sym, _∙_, ap, ap₂, subst}
+use mathlib.Core.Bool.{true≢false}
 use mathlib.Core.List.{List}
-use Prim.Native.Nat.{ℕ, _-_, _*_, _^_, _≤_, _<_}
+use Prim.Native.Nat.{ℕ, _-_, _*_, _^_, _<_}
 use native.Mathlib.Omega.{arith}
 use lib.Count.{ones}
 use lib.Dec.{eqb}
 use lib.IntN.{ℤ, pos, _+ℤ_, _*ℤ_}
 use lib.ListN.{getD}
+use borrow.Author.Tests.{eq-eqb}
 use Rattle.exact.specs.Bounds.{Within}
 use Rattle.exact.specs.Choice.{if_then_else_}
 use Rattle.exact.specs.Questions.{NoBetter}
+use Rattle.exact.specs.Ranges.{countTo}
 use Rattle.exact.specs.declared.Question.{Question}
 use Rattle.exact.proofs.Extremes.{extreme-cong}
-use Rattle.exact.proofs.Ranges.{sum-cong}
-use Rattle.model.specs.Job.{Job, Live, noTraffic, normal, overload}
-use Rattle.model.specs.Lanes.{bit, without, reduction}
+use Rattle.exact.proofs.Ranges.{sum-cong, count-none}
+use Rattle.model.specs.Job.{Profile, highway, rural, Job, Live, noTraffic, normal, overload}
+use Rattle.model.specs.Lanes.{bit, without, reductionFor, lanes}
 use Rattle.model.specs.Line.{Kind, HN, HO}
-use Rattle.model.specs.Traffic.{setSum, bestNormal, bestOverload, laneEffect}
+use Rattle.model.specs.Traffic.{setSum, bestNormal, bestOverload, bestOn, laneEffect}
 use Rattle.magnitudes.specs.Magnitudes.{transverseMost}
 use Rattle.centres.specs.Spans.{AcrossFits, Spanned, noSpan}
 use Rattle.centres.specs.declared.Across.{Across}
-use Rattle.sets.specs.Sets.{valueAt, ValuesFit, bestFor, LoadingRight}
+use Rattle.sets.specs.Sets.{valueAt, ValuesFit, LoadingRight}
 use Rattle.sets.specs.declared.Loading.{Loading}
 use Rattle.lanes.specs.Entries.{LineEffectsFit, chosenIn}
 use Rattle.lanes.specs.Loadings.{effectsOf, ElementRight, LoadingOf}
@@ -47,38 +50,50 @@ module _ (q : Question) (across : Across) (e : Effects) {b : ℕ} (fit : LineEff
     effects job kind on is i h = are i h ∙ elements job kind on is i h .value
 
 -- ---- the same of equal values
-set-sum-cong : (n set : ℕ) (f g : ℕ → ℤ) → ((i : ℕ) → i < n → f i ≡ g i) → setSum reduction n f set ≡ setSum reduction n g set
+set-sum-cong : (r : ℕ → ℤ) (n set : ℕ) (f g : ℕ → ℤ) → ((i : ℕ) → i < n → f i ≡ g i) → setSum r n f set ≡ setSum r n g set
 unfolding setSum
-set-sum-cong n set f g h = ap (λ (x : ℤ). reduction (ones set) *ℤ x) (sum-cong n _ _ (λ i l. ap (λ (x : ℤ). if bit set i then x else pos 0) (h i l)))
+set-sum-cong r n set f g h = ap (λ (x : ℤ). r (ones set) *ℤ x) (sum-cong n _ _ (λ i l. ap (λ (x : ℤ). if bit set i then x else pos 0) (h i l)))
 
 module _ (q : Question) (n : ℕ) (hn hn′ ho ho′ : ℕ → ℤ) (some : 0 < n) (a : (i : ℕ) → i < n → hn i ≡ hn′ i) (b : (i : ℕ) → i < n → ho i ≡ ho′ i) where
-  best-cong : (live : Live) → bestFor q live n hn ho ≡ bestFor q live n hn′ ho′
-  unfolding bestNormal bestOverload
-  best-cong noTraffic = refl
-  best-cong normal = extreme-cong q (2 ^ n - 1) _ _ (λ s l. set-sum-cong n s hn hn′ a)
-  best-cong overload = extreme-cong q (n - 1) _ _ (λ o l. extreme-cong q (2 ^ n - 1) _ _ (λ s k. ap₂ (λ (x y : ℤ). pos 20 *ℤ x +ℤ y) (b o (omega arith)) (set-sum-cong n (without o s) hn hn′ a)))
+  best-cong : (p : Profile) (live : Live) → bestOn q p live n hn ho ≡ bestOn q p live n hn′ ho′
+  unfolding bestOn bestNormal bestOverload
+  best-cong p noTraffic = refl
+  best-cong p normal = extreme-cong q (2 ^ n - 1) _ _ (λ s l. set-sum-cong (reductionFor p) n s hn hn′ a)
+  best-cong highway overload = extreme-cong q (n - 1) _ _ (λ o l. extreme-cong q (2 ^ n - 1) _ _ (λ s k. ap₂ (λ (x y : ℤ). pos 20 *ℤ x +ℤ y) (b o (omega arith)) (set-sum-cong (reductionFor highway) n (without o s) hn hn′ a)))
+  best-cong rural overload = refl
 
-  loading-cong : (live : Live) (r : Loading) → LoadingRight q live n hn ho r → LoadingRight q live n hn′ ho′ r
-  loading-cong live r l = record {
+  loading-cong : (p : Profile) (live : Live) (r : Loading) → LoadingRight q p live n hn ho r → LoadingRight q p live n hn′ ho′ r
+  loading-cong p live r l = record {
     lane = l .lane;
     kinds = l .kinds;
     small = l .small;
     apart = l .apart;
-    value = l .value ∙ ap₂ (λ (x y : ℤ). pos 20 *ℤ x +ℤ y) (sum-cong n _ _ (λ i h. ap (λ (x : ℤ). if eqb i (r .lane) then x else pos 0) (b i h))) (set-sum-cong n (r .set) hn hn′ a);
-    best = l .best ∙ best-cong live;
+    value =
+        l .value
+        ∙ ap₂ (λ (x y : ℤ). pos 20 *ℤ x +ℤ y) (sum-cong n _ _ (λ i h. ap (λ (x : ℤ). if eqb i (r .lane) then x else pos 0) (b i h))) (set-sum-cong (reductionFor p) n (r .set) hn hn′ a);
+    best = l .best ∙ best-cong p live;
     near = l .near;
   }
 
 -- a live kind's best loading over the elements' values is the job's
-pub loading-of : (q : Question) (job : Job) (live : Live) (across : Across) (dynamic : ℕ) (best : Loading) (hn ho : ℕ → Chosen) (f g : ℕ → ℤ) → 0 < across .lanes → Spanned job across → dynamic ≡ job .dynamic q →
-    LoadingRight q live (across .lanes) f g best → ((i : ℕ) → i < across .lanes → f i ≡ laneEffect q job HN i) → ((i : ℕ) → i < across .lanes → g i ≡ laneEffect q job HO i) →
+pub loading-of : (q : Question) (job : Job) (p : Profile) (live : Live) (across : Across) (dynamic : ℕ) (best : Loading) (hn ho : ℕ → Chosen) (f g : ℕ → ℤ) → 0 < across .lanes → Spanned job across → job .profile ≡ p → dynamic ≡ job .dynamic q →
+    LoadingRight q p live (across .lanes) f g best → ((i : ℕ) → i < across .lanes → f i ≡ laneEffect q job HN i) → ((i : ℕ) → i < across .lanes → g i ≡ laneEffect q job HO i) →
     ((i : ℕ) → i < across .lanes → ElementRight q job HN i (hn i)) → ((i : ℕ) → i < across .lanes → i ≡ best .lane → ElementRight q job HO i (ho i)) →
     LoadingOf q job live across dynamic best hn ho
-loading-of q job live across dynamic best hn ho f g some on factor l is-f is-g under-hn under-ho = record {
+loading-of q job p live across dynamic best hn ho f g some on loads factor l is-f is-g under-hn under-ho = record {
   spanned = on;
   factor = factor;
-  loading = subst (λ (n : ℕ). LoadingRight q live n (laneEffect q job HN) (laneEffect q job HO) best) (on .lanes)
-      (loading-cong q (across .lanes) f (laneEffect q job HN) g (laneEffect q job HO) some is-f is-g live best l);
+  loading = subst (λ (p : Profile). LoadingRight q p live (lanes job) (laneEffect q job HN) (laneEffect q job HO) best) (sym loads)
+      (subst (λ (n : ℕ). LoadingRight q p live n (laneEffect q job HN) (laneEffect q job HO) best) (on .lanes)
+      (loading-cong q (across .lanes) f (laneEffect q job HN) g (laneEffect q job HO) some is-f is-g p live best l));
   underHn = subst (λ (n : ℕ). (i : ℕ) → i < n → ElementRight q job HN i (hn i)) (on .lanes) under-hn;
   underHo = subst (λ (n : ℕ). (i : ℕ) → i < n → i ≡ best .lane → ElementRight q job HO i (ho i)) (on .lanes) under-ho;
 }
+
+-- one without a lane under HO
+pub hn-loading : (q : Question) (job : Job) (p : Profile) (live : Live) (across : Across) (dynamic : ℕ) (best : Loading) (hn ho : ℕ → Chosen) (f : ℕ → ℤ) → 0 < across .lanes → Spanned job across → job .profile ≡ p → dynamic ≡ job .dynamic q →
+    LoadingRight q p live (across .lanes) f (laneEffect q job HO) best → countTo (across .lanes) (λ i. eqb i (best .lane)) ≡ 0 → ((i : ℕ) → i < across .lanes → f i ≡ laneEffect q job HN i) →
+    ((i : ℕ) → i < across .lanes → ElementRight q job HN i (hn i)) → LoadingOf q job live across dynamic best hn ho
+hn-loading q job p live across dynamic best hn ho f some on loads factor l none is-f under-hn =
+    loading-of q job p live across dynamic best hn ho f (laneEffect q job HO) some on loads factor l is-f (λ i h. refl) under-hn
+    (λ i h e. absurd (true≢false (sym (eq-eqb i (best .lane) e) ∙ count-none (across .lanes) (λ k. eqb k (best .lane)) none i h)))

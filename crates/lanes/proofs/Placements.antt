@@ -13,15 +13,16 @@ use lib.ListN.{length, getD}
 use lib.Pow.{pow-mono}
 use borrow.Author.Tests.{ltb-true, ltb-false, eqb-true, ne-eqb}
 use Rattle.exact.specs.Choice.{if_then_else_}
+use Rattle.exact.specs.Ranges.{countTo}
 use Rattle.exact.specs.declared.Question.{Question}
 use Rattle.exact.proofs.Bridge.{by-test}
-use Rattle.model.specs.Job.{Job, Live, noTraffic, normal, overload}
+use Rattle.model.specs.Job.{Job, Live}
 use Rattle.model.specs.Line.{HN, HO}
 use Rattle.model.specs.Lanes.{bit, lanes, unit}
-use Rattle.model.specs.Traffic.{laneEffect, bestSum, effectOf, trafficValue}
-use Rattle.model.specs.Arrangements.{OverloadLanes}
+use Rattle.model.specs.Traffic.{bestSum, effectOf, trafficValue}
+use Rattle.model.specs.Arrangements.{KindsFit}
 use Rattle.model.specs.Answered.{emptyLane, entryBit, setOf, laneAt}
-use Rattle.model.specs.Placements.{EntryRight, entryIs}
+use Rattle.model.specs.Placements.{EntryRight, entryIs, placedLanes}
 use Rattle.model.specs.declared.Entry.{Entry}
 use Rattle.model.specs.declared.Entry.the-variants.{Unloaded, Hn, Ho}
 use Rattle.model.specs.declared.Lane.{Lane}
@@ -29,7 +30,6 @@ use Rattle.model.specs.declared.Extreme.{Extreme}
 use Rattle.model.proofs.Sets.{setNumber, set-number, number-cong, number-with}
 use Rattle.model.proofs.Attained.{placed-lanes, placed-sum}
 use Rattle.centres.specs.declared.Across.{Across}
-use Rattle.sets.specs.Sets.{bestFor}
 use Rattle.sets.specs.declared.Loading.{Loading}
 use Rattle.sets.proofs.SetNumbers.{bit-past}
 use Rattle.lanes.specs.Loadings.{laneBy, LanesPlaced, ElementRight, LoadingOf, TrafficPlaced}
@@ -107,13 +107,6 @@ module _ (set o n : ℕ) (hn over : ℕ → Chosen) (all : List Lane) (small : s
       (λ t. number-cong 5 loaded (bit set) (λ i l. ap (λ (t : Bool). if t then true else bit set i) (ne-eqb i o (λ e. let h = ltb-false o 5 t in omega arith))) ∙ whole)
 
 -- ---- in a job
--- a live kind's best sum is the job's
-best-is : (q : Question) (job : Job) (live : Live) → bestFor q live (lanes job) (laneEffect q job HN) (laneEffect q job HO) ≡ bestSum q job live
-unfolding bestSum
-best-is q job noTraffic = refl
-best-is q job normal = refl
-best-is q job overload = refl
-
 module _ (q : Question) (job : Job) (live : Live) (across : Across) (dynamic : ℕ) (best : Loading) (hn ho : ℕ → Chosen) (f : LoadingOf q job live across dynamic best hn ho) (few : across .lanes ≤ 5)
     (x : Extreme) (value : x .value ≡ effectOf q dynamic (best .value) (across .unit)) (set : x .placement .set ≡ (if ltb (best .lane) 5 then best .set + 2 ^ best .lane else best .set))
     (as-found : LanesPlaced (best .set) (best .lane) (across .lanes) hn ho (x .placement .lanes)) where
@@ -136,20 +129,25 @@ module _ (q : Question) (job : Job) (live : Live) (across : Across) (dynamic : �
   entry-by i c d false true h k = h .at
   entry-by i c d false false h k = tt
 
+  -- its sum is the job's best
+  best-is : best .value ≡ bestSum q job live
+  unfolding bestSum
+  best-is = f .loading .best
+
   pub traffic-placed : TrafficPlaced q job live x
   unfolding trafficValue
   traffic-placed =
-      let top = f .loading .best ∙ best-is q job live in
+      let counted = placed-lanes q job (x .placement) (best .set) (λ i. eqb i o) (f .loading .small) under-hn under-ho in
       record {
         value =
             value
             ∙ ap (λ (d : ℕ). effectOf q d (best .value) (across .unit)) (f .factor)
-            ∙ ap₂ (λ (z : ℤ) (d : ℕ). effectOf q (job .dynamic q) z d) top (f .spanned .unit);
+            ∙ ap₂ (λ (z : ℤ) (d : ℕ). effectOf q (job .dynamic q) z d) best-is (f .spanned .unit);
         entries = λ i h.
             subst (λ (y : Lane). EntryRight q job i (y .entry) (y .centre)) (sym (placed .each i h))
             (entry-by i (hn i) (ho i) (eqb i o) (bit (best .set) i) (f .underHn i h) (λ e. f .underHo i h (eqb-true i o e)));
-        kinds = subst (OverloadLanes live) (sym (placed-lanes q job (x .placement) (best .set) (λ i. eqb i o) (f .loading .small) under-hn under-ho)) (f .loading .kinds);
-        sum = placed-sum q job (x .placement) (best .set) (λ i. eqb i o) (f .loading .small) under-hn under-ho ∙ sym (f .loading .value) ∙ top;
+        kinds = subst (λ (m : ℕ). KindsFit (job .profile) live m (placedLanes job HO (x .placement))) (sym (counted .0)) (subst (KindsFit (job .profile) live (countTo (lanes job) (bit (best .set)))) (sym (counted .1)) (f .loading .kinds));
+        sum = placed-sum q job (x .placement) (best .set) (λ i. eqb i o) (f .loading .small) under-hn under-ho ∙ sym (f .loading .value) ∙ best-is;
         set = set ∙ sym (loaded-set (best .set) o (lanes job) hn ho (x .placement .lanes) (f .loading .small) (subst (λ (n : ℕ). n ≤ 5) (f .spanned .lanes) few) (f .loading .apart) (f .loading .lane) placed);
         onDeck = λ i h. ap (λ (y : Lane). y .entry) (placed .past i h);
         idle = λ i e. elim (decLe (lanes job) i) [

@@ -11,7 +11,7 @@ use Rattle.model.specs.Job.{Job, Live}
 use Rattle.model.specs.Line.{Kind, HN, HO, lineEffect}
 use Rattle.model.specs.Lanes.{bit, lanes}
 use Rattle.model.specs.Traffic.{laneEffect, bestSum, trafficValue}
-use Rattle.model.specs.Arrangements.{OverloadLanes}
+use Rattle.model.specs.Arrangements.{KindsFit}
 use Rattle.model.specs.Answered.{emptyLane, laneAt, setOf}
 use Rattle.model.specs.Placements.{BestCentre, EntryRight, placedLanes, placedSum}
 use Rattle.model.specs.declared.Sense.the-variants.{Raising, Lowering}
@@ -58,7 +58,7 @@ pub record ElementRight (q : Question) (job : Job) (kind : Kind) (i : ℕ) (c : 
 pub record LoadingOf (q : Question) (job : Job) (live : Live) (across : Across) (dynamic : ℕ) (best : Loading) (hn ho : ℕ → Chosen) : Type 0 where
   pub spanned : Spanned job across
   pub factor : dynamic ≡ job .dynamic q
-  pub loading : LoadingRight q live (lanes job) (laneEffect q job HN) (laneEffect q job HO) best
+  pub loading : LoadingRight q (job .profile) live (lanes job) (laneEffect q job HN) (laneEffect q job HO) best
   pub underHn : (i : ℕ) → i < lanes job → ElementRight q job HN i (hn i)
   pub underHo : (i : ℕ) → i < lanes job → i ≡ best .lane → ElementRight q job HO i (ho i)
 
@@ -66,7 +66,7 @@ pub record LoadingOf (q : Question) (job : Job) (live : Live) (across : Across) 
 pub record TrafficPlaced (q : Question) (job : Job) (live : Live) (x : Extreme) : Type 0 where
   pub value : x .value ≡ trafficValue q job live
   pub entries : (i : ℕ) → i < lanes job → EntryRight q job i (laneAt (x .placement) i .entry) (laneAt (x .placement) i .centre)
-  pub kinds : OverloadLanes live (placedLanes job HO (x .placement))
+  pub kinds : KindsFit (job .profile) live (placedLanes job HN (x .placement)) (placedLanes job HO (x .placement))
   pub sum : placedSum q job (x .placement) ≡ bestSum q job live
   pub set : x .placement .set ≡ setOf (x .placement .lanes)
   pub onDeck : (i : ℕ) → lanes job ≤ i → laneAt (x .placement) i .entry ≡ Unloaded

@@ -3,6 +3,7 @@ use crate::entries;
 use centres::Across;
 use centres::Span;
 use exact::Question;
+use model::Edition;
 use model::Entry;
 use model::Extreme;
 use model::Lane;
@@ -11,7 +12,9 @@ use sets::Loading;
 ghost use mathlib.Core.Path.{_≡_};
 ghost use Prim.Native.Nat.{_≤_, _<_};
 ghost use Rattle.exact.specs.Bounds.{Within};
-ghost use Rattle.model.specs.Job.{Job, Live, normal, overload};
+ghost use Rattle.model.specs.Job.{highway as highwayLoads, rural as ruralLoads, Job, Live, normal, overload};
+ghost use Rattle.model.specs.Decode.{profileOf};
+ghost use Rattle.model.specs.declared.Edition.the-variants.{Fourth};
 ghost use Rattle.model.specs.Line.{HN, HO};
 ghost use Rattle.model.specs.Traffic.{effectOf};
 ghost use Rattle.magnitudes.specs.Magnitudes.{hnLineMost, hoLineMost, sumMost, trafficMost};
@@ -104,10 +107,10 @@ pub struct Extremes {
     pub overload: Extreme,
 }
 
-// Normal: the best set of lanes under HN. Overload: the best lane under HO and set of others under HN.
-pub fn both(q: Question, across: Across, dynamic: usize, hn: Effects, ho: Effects) -> Extremes
+// The loads of a highway. Normal: the best set of lanes under HN. Overload: the best lane under HO and set of others under HN.
+fn highway(q: Question, across: Across, dynamic: usize, hn: Effects, ho: Effects) -> Extremes
     requires { ⌜ AcrossFits across × (1000 ≤ dynamic) × (dynamic ≤ 1300) × LineEffectsFit hnLineMost hn × LineEffectsFit hoLineMost ho ⌝ }
-    ensures { λ r. ⌜ Within trafficMost (r .normal .value) × Within trafficMost (r .overload .value) × ((job : Job) → Spanned job across → dynamic ≡ job .dynamic q → hn ≡ effectsOf job HN → ho ≡ effectsOf job HO → TrafficPlaced q job normal (r .normal) × TrafficPlaced q job overload (r .overload)) ⌝ }
+    ensures { λ r. ⌜ Within trafficMost (r .normal .value) × Within trafficMost (r .overload .value) × ((job : Job) → Spanned job across → job .profile ≡ highwayLoads → dynamic ≡ job .dynamic q → hn ≡ effectsOf job HN → ho ≡ effectsOf job HO → TrafficPlaced q job normal (r .normal) × TrafficPlaced q job overload (r .overload)) ⌝ }
 {
     let light = entries::values(q, across, hn);
     let heavy = entries::values(q, across, ho);
@@ -116,4 +119,35 @@ pub fn both(q: Question, across: Across, dynamic: usize, hn: Effects, ho: Effect
     let normal = found(q, across, dynamic, set, hn, hn);
     let overload = found(q, across, dynamic, pair, hn, ho);
     Extremes { normal, overload }
+}
+
+// A rural bridge. Normal: its one lane under 0.85 HN. Overload: no lane.
+fn rural(q: Question, across: Across, dynamic: usize, hn: Effects) -> Extremes
+    requires { ⌜ AcrossFits across × (across .lanes ≡ 1) × (1000 ≤ dynamic) × (dynamic ≤ 1300) × LineEffectsFit hnLineMost hn ⌝ }
+    ensures { λ r. ⌜ Within trafficMost (r .normal .value) × Within trafficMost (r .overload .value) × ((job : Job) → Spanned job across → job .profile ≡ ruralLoads → dynamic ≡ job .dynamic q → hn ≡ effectsOf job HN → TrafficPlaced q job normal (r .normal) × TrafficPlaced q job overload (r .overload)) ⌝ }
+{
+    let light = entries::values(q, across, hn);
+    let one = sets::one_lane(light[0]);
+    let none = sets::no_lane();
+    let normal = found(q, across, dynamic, one, hn, hn);
+    let overload = found(q, across, dynamic, none, hn, hn);
+    Extremes { normal, overload }
+}
+
+// The traffic values of an edition's loads.
+pub fn both(
+    q: Question,
+    edition: Edition,
+    across: Across,
+    dynamic: usize,
+    hn: Effects,
+    ho: Effects,
+) -> Extremes
+    requires { ⌜ AcrossFits across × (edition ≡ Fourth → across .lanes ≡ 1) × (1000 ≤ dynamic) × (dynamic ≤ 1300) × LineEffectsFit hnLineMost hn × LineEffectsFit hoLineMost ho ⌝ }
+    ensures { λ r. ⌜ Within trafficMost (r .normal .value) × Within trafficMost (r .overload .value) × ((job : Job) → Spanned job across → job .profile ≡ profileOf edition → dynamic ≡ job .dynamic q → hn ≡ effectsOf job HN → ho ≡ effectsOf job HO → TrafficPlaced q job normal (r .normal) × TrafficPlaced q job overload (r .overload)) ⌝ }
+{
+    match edition {
+        Edition::First => highway(q, across, dynamic, hn, ho),
+        Edition::Fourth => rural(q, across, dynamic, hn),
+    }
 }

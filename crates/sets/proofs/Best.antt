@@ -21,9 +21,9 @@ use Rattle.exact.proofs.Extremes.{no-better-refl, no-better-trans, no-better-an
 use Rattle.exact.proofs.Ranges.{sum-zero, sum-one, count-cong}
 use Rattle.exact.proofs.Ring.{_⊕_, _⊗_, lit, _≐_, solve}
 use Rattle.exact.proofs.Weights.{count-false, count-le, count-with, sum-near}
-use Rattle.model.specs.Job.{normal, overload}
+use Rattle.model.specs.Job.{highway, normal, overload}
 use Rattle.model.specs.Lanes.{bit, without, reduction}
-use Rattle.model.specs.Traffic.{setSum, bestNormal, bestOverload}
+use Rattle.model.specs.Traffic.{setSum, bestNormal, bestOverload, bestOn}
 use Rattle.model.proofs.Sets.{ones-count, without-bit}
 use Rattle.magnitudes.specs.Magnitudes.{hnLaneMost, setMost}
 use Rattle.sets.specs.Sets.{BestBeside, OverloadAt, LoadingRight}
@@ -41,8 +41,8 @@ set-near n v set few near small =
 
 -- without HO: the best of all sets
 pub normal-right : (q : Question) (n : ℕ) (v : ℕ → ℤ) (x : ℤ) (set : ℕ) → n ≤ 5 → ((i : ℕ) → i < n → Within hnLaneMost (v i)) → BestBeside q n v 5 n x set →
-    (ho : ℕ → ℤ) → LoadingRight q normal n v ho (record { value = x; lane = 5; set = set })
-unfolding bestNormal
+    (ho : ℕ → ℤ) → LoadingRight q highway normal n v ho (record { value = x; lane = 5; set = set })
+unfolding bestOn bestNormal
 normal-right q n v x set few near b ho =
     let f = setSum reduction n v in
     let no : (i : ℕ) → i < n → eqb i 5 ≡ false = λ i h. ne-eqb i 5 (λ e. omega arith) in
@@ -92,8 +92,8 @@ module _ (q : Question) (n : ℕ) (hn ho : ℕ → ℤ) where
       ]
 
   -- of all lanes: the best of all HO lanes and sets without them
-  pub overload-right : (r : Loading) → OverloadTo q n hn ho n r → LoadingRight q overload n hn ho r
-  unfolding bestOverload
+  pub overload-right : (r : Loading) → OverloadTo q n hn ho n r → LoadingRight q highway overload n hn ho r
+  unfolding bestOn bestOverload
   overload-right r b =
       let o = r .lane in
       let a = b .at in

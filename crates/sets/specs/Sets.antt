@@ -13,10 +13,10 @@ use Rattle.exact.specs.Choice.{if_then_else_}
 use Rattle.exact.specs.Questions.{NoBetter, beats}
 use Rattle.exact.specs.Ranges.{sumTo, countTo}
 use Rattle.exact.specs.declared.Question.{Question}
-use Rattle.model.specs.Job.{Live, noTraffic, normal, overload}
-use Rattle.model.specs.Lanes.{bit, reduction}
-use Rattle.model.specs.Traffic.{setSum, bestNormal, bestOverload}
-use Rattle.model.specs.Arrangements.{OverloadLanes}
+use Rattle.model.specs.Job.{Profile, Live}
+use Rattle.model.specs.Lanes.{bit, reduction, reductionFor}
+use Rattle.model.specs.Traffic.{setSum, bestOn}
+use Rattle.model.specs.Arrangements.{KindsFit}
 use Rattle.magnitudes.specs.Magnitudes.{sumMost}
 use Rattle.sets.specs.declared.Pick.{Pick}
 use Rattle.sets.specs.declared.Growing.{Growing}
@@ -80,18 +80,12 @@ pub record OverloadAt (q : Question) (n : ℕ) (hn : ℕ → ℤ) (ho : ℤ) (o 
   pub unbeaten : (s : ℕ) → s < 2 ^ n → bit s o ≡ false → NoBetter q (pos 20 *ℤ ho +ℤ setSum reduction n hn s) (r .value)
   pub near : Within sumMost (r .value)
 
--- a live kind's best sum
-abbrev pub bestFor : Question → Live → (n : ℕ) (hn ho : ℕ → ℤ) → ℤ
-bestFor q noTraffic n hn ho = pos 0
-bestFor q normal n hn ho = bestNormal q reduction n hn
-bestFor q overload n hn ho = bestOverload q reduction n hn ho
-
--- a live kind's HO lane and set of HN lanes, whose sum is the kind's best
-pub record LoadingRight (q : Question) (live : Live) (n : ℕ) (hn ho : ℕ → ℤ) (r : Loading) : Type 0 where
+-- a live kind's HO lane and set of HN lanes, whose sum is the kind's best for the loads
+pub record LoadingRight (q : Question) (profile : Profile) (live : Live) (n : ℕ) (hn ho : ℕ → ℤ) (r : Loading) : Type 0 where
   pub lane : (r .lane < n) ⊎ (r .lane ≡ 5)
-  pub kinds : OverloadLanes live (countTo n (λ i. eqb i (r .lane)))
+  pub kinds : KindsFit profile live (countTo n (bit (r .set))) (countTo n (λ i. eqb i (r .lane)))
   pub small : r .set < 2 ^ n
   pub apart : bit (r .set) (r .lane) ≡ false
-  pub value : r .value ≡ pos 20 *ℤ sumTo n (λ i. if eqb i (r .lane) then ho i else pos 0) +ℤ setSum reduction n hn (r .set)
-  pub best : r .value ≡ bestFor q live n hn ho
+  pub value : r .value ≡ pos 20 *ℤ sumTo n (λ i. if eqb i (r .lane) then ho i else pos 0) +ℤ setSum (reductionFor profile) n hn (r .set)
+  pub best : r .value ≡ bestOn q profile live n hn ho
   pub near : Within sumMost (r .value)

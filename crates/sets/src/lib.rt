@@ -4,11 +4,12 @@ ghost use mathlib.Core.Path.{_≡_};
 ghost use Prim.Native.Nat.{ℕ, _+_, _≤_, _<_, _^_};
 ghost use lib.Count.{ones};
 ghost use lib.Dec.{ltb};
-ghost use lib.IntN.{ℤ};
+ghost use lib.IntN.{ℤ, pos};
 ghost use Rattle.exact.specs.Bounds.{Within};
 ghost use Rattle.exact.specs.Choice.{if_then_else_};
-ghost use Rattle.exact.specs.Questions.{beats as beatsFor};
-ghost use Rattle.model.specs.Job.{normal, overload};
+ghost use Rattle.exact.specs.Questions.{beats as beatsFor, NoBetter};
+ghost use Rattle.exact.specs.declared.Question.{Question};
+ghost use Rattle.model.specs.Job.{highway, rural, normal, overload};
 ghost use Rattle.model.specs.Lanes.{bit, reduction as reductionOf};
 ghost use Rattle.magnitudes.specs.Magnitudes.{hnLaneMost, hoLaneMost, hnLanesMost};
 ghost use Rattle.sets.specs.Sets.{valueAt, isFree, ValuesFit, BestFree, added, Grown, Reaches, BestBeside, OverloadAt, LoadingRight};
@@ -166,10 +167,10 @@ pub struct Loading {
     pub set: u32,
 }
 
-// The best set of n lanes.
+// The best set of n lanes of a highway.
 pub fn best_normal(q: Question, hn: [i64; 5], n: usize) -> Loading
     requires { ⌜ (n ≤ 5) × ValuesFit q hnLaneMost n (valueAt hn) ⌝ }
-    ensures { λ r. ⌜ ((ho : ℕ → ℤ) → LoadingRight q normal n (valueAt hn) ho r) ⌝ }
+    ensures { λ r. ⌜ ((ho : ℕ → ℤ) → LoadingRight q highway normal n (valueAt hn) ho r) ⌝ }
 {
     let s = beside(q, hn, n, 5);
     Loading {
@@ -203,14 +204,41 @@ fn better(q: Question, a: Loading, b: Loading) -> Loading
     a
 }
 
-// The best HO lane and set beside it.
+// The best HO lane of a highway and set beside it.
 pub fn best_overload(q: Question, hn: [i64; 5], ho: [i64; 5], n: usize) -> Loading
     requires { ⌜ (0 < n) × (n ≤ 5) × ValuesFit q hnLaneMost n (valueAt hn) × ((i : ℕ) → i < n → Within hoLaneMost (valueAt ho i)) ⌝ }
-    ensures { λ r. ⌜ LoadingRight q overload n (valueAt hn) (valueAt ho) r ⌝ }
+    ensures { λ r. ⌜ LoadingRight q highway overload n (valueAt hn) (valueAt ho) r ⌝ }
 {
     let mut best = overload_at(q, hn, n, ho[0], 0);
     for lane in 1..n {
         best = better(q, best, overload_at(q, hn, n, ho[lane], lane));
     }
     best
+}
+
+// No lane loaded: the overload of a rural bridge, and the best set of one lane that gives nothing.
+pub fn no_lane() -> Loading
+    ensures { λ r. ⌜ ((q : Question) (n : ℕ) (hn ho : ℕ → ℤ) → n ≤ 5 → LoadingRight q rural overload n hn ho r) ⌝ }
+    ensures { λ r. ⌜ ((q : Question) (hn ho : ℕ → ℤ) → hn 0 ≡ pos 0 → LoadingRight q rural normal 1 hn ho r) ⌝ }
+{
+    Loading {
+        value: 0,
+        lane: 5,
+        set: 0,
+    }
+}
+
+// 0.85 HN of this value in the one lane of a rural bridge.
+pub fn one_lane(value: i64) -> Loading
+    requires { ⌜ Within hnLaneMost value ⌝ }
+    ensures { λ r. ⌜ ((q : Question) (hn ho : ℕ → ℤ) → hn 0 ≡ value → NoBetter q (pos 0) value → LoadingRight q rural normal 1 hn ho r) ⌝ }
+{
+    if value == 0 {
+        return no_lane();
+    }
+    Loading {
+        value: 17 * value,
+        lane: 5,
+        set: 1,
+    }
 }

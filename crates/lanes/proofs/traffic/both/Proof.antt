@@ -1,77 +1,50 @@
-use mathlib.Core.Path.{refl, sym, _∙_}
-use mathlib.Core.Bool.{true≢false}
-use native.Mathlib.Nat.{lt-of-lt-of-le}
-use native.Mathlib.Omega.{arith}
-use lib.Dec.{lit≤, eqb}
-use lib.IntN.{pos}
-use lib.Pow.{pow-mono}
-use borrow.Author.Tests.{eq-eqb}
-use Rattle.exact.proofs.Ranges.{count-none}
-use Rattle.model.specs.Job.{normal, overload}
+use mathlib.Core.Path.{_≡_, _∙_, ap}
+use Prim.Native.Nat.{ℕ}
+use borrow.Author.Needs.{needs}
+use Rattle.exact.specs.Bounds.{Within}
+use Rattle.exact.specs.declared.Question.{Question}
+use Rattle.model.specs.Job.{Profile, highway, rural, Job, normal, overload}
 use Rattle.model.specs.Line.{HN, HO}
-use Rattle.model.specs.Traffic.{laneEffect}
-use Rattle.magnitudes.specs.Magnitudes.{hnLaneMost, hoLineMost, hoLaneMost}
-use Rattle.sets.specs.Sets.{valueAt, ValuesFit}
-use Rattle.lanes.specs.Entries.{LineEffectsFit, chosenIn}
-use Rattle.lanes.proofs.Elements.{wider}
-use Rattle.lanes.proofs.Given.{values-fit, elements, effects, loading-of}
+use Rattle.model.specs.Decode.{profileOf}
+use Rattle.model.specs.declared.Edition.{Edition}
+use Rattle.model.specs.declared.Edition.the-variants.{First, Fourth}
+use Rattle.model.specs.declared.Extreme.{Extreme}
+use Rattle.magnitudes.specs.Magnitudes.{trafficMost}
+use Rattle.centres.specs.Spans.{Spanned}
+use Rattle.centres.specs.declared.Across.{Across}
+use Rattle.lanes.specs.Loadings.{effectsOf, TrafficPlaced}
+use Rattle.lanes.specs.declared.traffic.Effects.{Effects}
 use Rattle.lanes.proofs.traffic.both.Statement.{statement}
 use Rattle.lanes.proofs.traffic.both.Tie as tie
 
-hn-wide : (s : tie.Start) → LineEffectsFit hoLineMost (s .args .hn)
-hn-wide s = wider (lit≤ tt) (s .pre .3)
+-- in every job of these loads, a question's two traffic values and their placements
+abbrev Placed : Question → Across → (dynamic : ℕ) → (hn ho : Effects) → (normal overload : Extreme) → Profile → Type 0
+Placed q across dynamic hn ho x y p =
+    (job : Job) → Spanned job across → job .profile ≡ p → dynamic ≡ job .dynamic q → hn ≡ effectsOf job HN → ho ≡ effectsOf job HO → TrafficPlaced q job normal x × TrafficPlaced q job overload y
 
--- both kinds' effects, lane by lane
-module _ (c : tie.After-values2) where
-  abbrev s : tie.Start
-  s = c .before .before
+module _ {q : Question} {loads : Profile} {across : Across} {dynamic : ℕ} {hn ho : Effects} {x y : Extreme} where
+  of-highway : loads ≡ highway → Placed q across dynamic hn ho x y highway → Within trafficMost (x .value) → Within trafficMost (y .value) → Within trafficMost (x .value) × Within trafficMost (y .value) × Placed q across dynamic hn ho x y loads
+  of-highway e f a b = (a, b, λ job on is. f job on (is ∙ e))
 
-  light : ValuesFit (s .args .q) hnLaneMost (s .args .across .lanes) (valueAt (c .before .values .result))
-  light = values-fit (s .args .q) (s .args .across) (s .args .hn) (s .pre .3) (c .before .values .result) (c .before .values .ensures) (s .pre .0)
+  of-rural : loads ≡ rural → ((job : Job) → Spanned job across → job .profile ≡ rural → dynamic ≡ job .dynamic q → hn ≡ effectsOf job HN → TrafficPlaced q job normal x × TrafficPlaced q job overload y) →
+      Within trafficMost (x .value) → Within trafficMost (y .value) → Within trafficMost (x .value) × Within trafficMost (y .value) × Placed q across dynamic hn ho x y loads
+  of-rural e f a b = (a, b, λ job on is factor is-hn is-ho. f job on (is ∙ e) factor is-hn)
 
-  heavy : ValuesFit (s .args .q) hoLaneMost (s .args .across .lanes) (valueAt (c .values2 .result))
-  heavy = values-fit (s .args .q) (s .args .across) (s .args .ho) (s .pre .4) (c .values2 .result) (c .values2 .ensures) (s .pre .0)
+-- an edition's loads
+highway-loads : {edition : Edition} → edition ≡ First → profileOf edition ≡ highway
+highway-loads e = ap profileOf e
 
-found-requires : tie.Need-found-requires
-found-requires c κs =
-    let st = s (c .before .before) in
-    let r = c .before .best-normal .ensures (λ i. pos 0) in
-    (st .pre .0, st .pre .1, st .pre .2, hn-wide st, hn-wide st, lt-of-lt-of-le (r .small) (pow-mono {i = st .args .across .lanes} {j = 5} (st .pre .0 .few)), r .near)
-
-found-requires-2 : tie.Need-found-requires-2
-found-requires-2 c κs =
-    let best = c .before in
-    let st = s (best .before .before) in
-    let r = best .best-overload .ensures in
-    (st .pre .0, st .pre .1, st .pre .2, hn-wide st, search (hn-wide st, st .pre .4), lt-of-lt-of-le (r .small) (pow-mono {i = st .args .across .lanes} {j = 5} (st .pre .0 .few)), r .near)
+rural-loads : {edition : Edition} → edition ≡ Fourth → profileOf edition ≡ rural
+rural-loads e = ap profileOf e
 
 returns : tie.Need-returns
-returns c =
-    let over = c .before .before in
-    let set = over .before in
-    let all = set .before in
-    let st = s all in
-    let a = st .args in
-    let hn = all .before .values in
-    let ho = all .values2 in (
-      c .before .found .ensures .0,
-      c .found2 .ensures .0,
-      λ job on factor is-hn is-ho.
-          let under-hn = elements (a .q) (a .across) (a .hn) (st .pre .3) job HN on is-hn in
-          let light-is = effects (a .q) (a .across) (a .hn) (st .pre .3) (hn .result) (hn .ensures) job HN on is-hn in
-          let l = set .best-normal .ensures (laneEffect (a .q) job HO) in (
-            c .before .found .ensures .1 job normal
-                (loading-of (a .q) job normal (a .across) (a .dynamic) (set .best-normal .result) (chosenIn (a .q) (a .across) (a .hn)) (chosenIn (a .q) (a .across) (a .hn)) (valueAt (hn .result)) (laneEffect (a .q) job HO) (st .pre .0 .some) on factor l
-                light-is (λ i h. refl) under-hn
-                (λ i h e. absurd (true≢false (sym (eq-eqb i (set .best-normal .result .lane) e) ∙ count-none (a .across .lanes) (λ k. eqb k (set .best-normal .result .lane)) (l .kinds) i h)))),
-            c .found2 .ensures .1 job overload
-                (loading-of (a .q) job overload (a .across) (a .dynamic) (over .best-overload .result) (chosenIn (a .q) (a .across) (a .hn)) (chosenIn (a .q) (a .across) (a .ho)) (valueAt (hn .result)) (valueAt (ho .result)) (st .pre .0 .some) on factor (over .best-overload .ensures)
-                light-is (effects (a .q) (a .across) (a .ho) (st .pre .4) (ho .result) (ho .ensures) job HO on is-ho) under-hn
-                (λ i h e. elements (a .q) (a .across) (a .ho) (st .pre .4) job HO on is-ho i h)),
-          ),
-    )
+returns c = of-highway (search (needs, highway-loads)) (search needs) (search needs) (search needs)
+
+returns-2 : tie.Need-returns-2
+returns-2 c = of-rural (search (needs, rural-loads)) (search needs) (search needs) (search needs)
+
+rural-requires : tie.Need-rural-requires
+rural-requires c κs = let s = c .before .before in (s .pre .0, s .pre .1 (c .enum-told2 .given .1), s .pre .2, s .pre .3, s .pre .4)
 
 pub both-spec : {M : Type 1} → statement M
-both-spec =
-    tie.close
-    (tie.spec (λ c κs. (c .pre .0, hn-wide c)) (λ c κs. (c .before .pre .0, c .before .pre .4)) (λ c κs. (s c .pre .0 .few, light c)) (λ c κs. (s (c .before) .pre .0 .some, s (c .before) .pre .0 .few, light (c .before), heavy (c .before) .near)) found-requires found-requires-2 returns)
+both-spec = tie.close (tie.spec (λ c. search needs) (λ c κs. search needs) (λ c. search needs) rural-requires returns returns-2)
