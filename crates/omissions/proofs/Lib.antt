@@ -1,3 +1,4 @@
 mod Few
 pub mod Terms
 mod Omissions
+mod Groups

@@ -145,7 +145,7 @@ module _ (q : Question) (effect : ℕ → Effect) where
     pub near : Within (shareMost * i) (x .value)
     pub walked : i + length rest ≡ length whole
 
-  sofar-more : (whole rest : List Term) (t : Term) (i : ℕ) (own : Share) (x : Chained) → ShareRight effect t own → Sofar whole (t ∷ rest) i x → Sofar whole rest (i + 1) (extendedBy q own x)
+  pub sofar-more : (whole rest : List Term) (t : Term) (i : ℕ) (own : Share) (x : Chained) → ShareRight effect t own → Sofar whole (t ∷ rest) i x → Sofar whole rest (i + 1) (extendedBy q own x)
   sofar-more whole rest t i own x r s =
       let same : leavesOut t ≡ leavesShare q own = ap₂ (λ (m : Bool) (z : ℤ). m && beats q (pos 0) z) (sym (r .optional)) (sym (r .value)) in
       let walked : i + 1 + length rest ≡ length whole = omega (arith, s .walked) in
@@ -176,13 +176,16 @@ module _ (q : Question) (effect : ℕ → Effect) where
       kept a true c = refl
       kept a false c = refl
 
-  -- its start and its next record, as the code counts
+  -- its start
+  pub sofar-none : (whole : List Term) → Sofar whole whole 0 (record { value = pos 0; omitted = 0 })
+  sofar-none whole = record { value = solve 1 (λ z. lit 0 ⊕ z ≐ z) tt (bestChain q effect whole); omitted = λ d. ap (λ (b : Bool). b || left whole d) (none-left d); near = within-pos _ (omega arith); walked = omega arith }
+
+  -- and its next record, as the code counts
   pub sofar-start : (s : List ℕ) (count c : ℕ) → Sofar (termsFrom s count c) (termsFrom s (count - 0) c) 0 (record { value = pos 0; omitted = 0 })
   sofar-start s count c =
       let e : count ≡ count - 0 = omega arith in
       let whole = termsFrom s count c in
-      subst (λ (k : ℕ). Sofar whole (termsFrom s k c) 0 (record { value = pos 0; omitted = 0 })) e
-      (record { value = solve 1 (λ z. lit 0 ⊕ z ≐ z) tt (bestChain q effect whole); omitted = λ d. ap (λ (b : Bool). b || left whole d) (none-left d); near = within-pos _ (omega arith); walked = omega arith })
+      subst (λ (k : ℕ). Sofar whole (termsFrom s k c) 0 (record { value = pos 0; omitted = 0 })) e (sofar-none whole)
 
   pub sofar-next : (s : List ℕ) (whole : List Term) (count i c n : ℕ) (own : Share) (x : Chained) → ¬ (c ≡ 0) → i < count → n ≡ nextRecord s c → ShareRight effect (termAt s c) own →
       Sofar whole (termsFrom s (count - i) c) i x → Sofar whole (termsFrom s (count - (i + 1)) n) (i + 1) (extendedBy q own x)

@@ -19,9 +19,13 @@ use Rattle.omissions.specs.declared.Share.{Share}
 use Rattle.omissions.specs.declared.Chained.{Chained}
 use Rattle.omissions.specs.declared.ChainedBoth.{ChainedBoth}
 
+-- a term by its effect and its factor
+abbrev pub termOf : (e factor : ℕ) → Term
+termOf e factor = record { effect = e; factor = factor }
+
 -- record c's content
 abbrev pub termAt : List ℕ → ℕ → Term
-termAt s c = record { effect = recordEffect s c; factor = recordFactor s c }
+termAt s c = termOf (recordEffect s c) (recordFactor s c)
 
 -- a share is the term's
 pub record ShareRight (effect : ℕ → Effect) (t : Term) (x : Share) : Type 0 where

@@ -1,7 +1,7 @@
-// A chain's best value for each question, each effect marked 2 counting or left out.
+// A chain's best value for each question, each effect marked 2 counting or left out: of a chain of records, or of a rural bridge's built-in row.
 use exact::Question;
 ghost use mathlib.Core.Path.{_≡_};
-ghost use Prim.Native.Nat.{_-_, _*_, _^_, _≤_};
+ghost use Prim.Native.Nat.{_-_, _*_, _^_, _≤_, _<_};
 ghost use lib.ListN.{length};
 ghost use Rattle.exact.specs.Bounds.{Within};
 ghost use Rattle.exact.specs.declared.Question.{Question};
@@ -9,8 +9,10 @@ ghost use Rattle.model.specs.Format.{bytes};
 ghost use Rattle.model.specs.declared.Part.the-variants.{Effects, Records};
 ghost use Rattle.magnitudes.specs.Magnitudes.{effectMost, shareMost, chainMost};
 ghost use Rattle.model.specs.Decode.{effectAt, termsFrom};
+ghost use Rattle.model.specs.RuralBridges.{groupRow};
+ghost use Rattle.groups.specs.FactorLines.{lineRow, lineAlternative};
 ghost use Rattle.omissions.specs.ChainTables.{Distinct, EffectsInReach, RecordsInTables};
-ghost use Rattle.omissions.specs.Chained.{termAt, ShareRight, leavesShare, extendedBy, chainFor, ChainRight};
+ghost use Rattle.omissions.specs.Chained.{termOf, ShareRight, leavesShare, extendedBy, chainFor, ChainRight};
 
 // Effect e's value in N·U.
 fn effect_value(effects: &[u8], e: usize) -> i64
@@ -36,21 +38,20 @@ fn bit_of(e: usize) -> u32
     1u32 << ((e - 1) as u32)
 }
 
-// A record's share of a row's value: its factor times its effect's value; whether it may be left out, and its effect's bit.
+// A term's share of a row's value: its factor times its effect's value; whether it may be left out, and its effect's bit.
 pub struct Share {
     pub value: i64,
     pub optional: bool,
     pub bit: u32,
 }
 
-// Record c's share.
-fn share_of(effects: &[u8], records: &[u8], c: usize) -> Share
-    requires { ⌜ EffectsInReach (now effects) × RecordsInTables (now effects) (now records) × (1 ≤ c) × (bytes Records * c ≤ length (now records)) ⌝ }
-    ensures { λ r. ⌜ ShareRight (effectAt (now (effects .entry))) (termAt (now (records .entry)) c) r ⌝ }
+// Effect e's share by its factor in thousandths.
+fn share_of(effects: &[u8], e: usize, factor: usize) -> Share
+    requires { ⌜ EffectsInReach (now effects) × (1 ≤ e) × (e ≤ 16) × (bytes Effects * e ≤ length (now effects)) × (factor ≤ 3000) ⌝ }
+    ensures { λ r. ⌜ ShareRight (effectAt (now (effects .entry))) (termOf e factor) r ⌝ }
 {
-    let e = chains::effect(records, c);
     Share {
-        value: (chains::factor(records, c) as i64) * effect_value(effects, e),
+        value: (factor as i64) * effect_value(effects, e),
         optional: optional(effects, e),
         bit: bit_of(e),
     }
@@ -113,10 +114,34 @@ pub fn best(effects: &[u8], records: &[u8], first: usize, count: usize) -> Chain
         if c == 0 {
             return ChainedBoth { greatest, least };
         }
-        let own = share_of(effects, records, c);
+        let e = chains::effect(records, c);
+        let own = share_of(effects, e, chains::factor(records, c));
         greatest = extended(Question::Greatest, own, greatest);
         least = extended(Question::Least, own, least);
         c = chains::next(records, c);
+    }
+    ChainedBoth { greatest, least }
+}
+
+// The best of the chain of a line of the table of rural bridges' factors; a share of factor 0 changes nothing.
+pub fn of_group(effects: &[u8], line: usize) -> ChainedBoth
+    requires { ⌜ EffectsInReach (now effects) × (bytes Effects * 11 ≤ length (now effects)) × (line < 21) ⌝ }
+    ensures { λ r. ⌜ ((q : Question) → ChainRight q (effectAt (now (effects .entry))) (groupRow (lineRow line) .chain (lineAlternative line)) (chainFor q r)) ⌝ }
+{
+    let mut greatest = Chained {
+        value: 0,
+        omitted: 0,
+    };
+    let mut least = Chained {
+        value: 0,
+        omitted: 0,
+    };
+    let factors = groups::factors(line);
+    for i in 0usize..11 {
+        let e = i + 1;
+        let own = share_of(effects, e, factors[e] as usize);
+        greatest = extended(Question::Greatest, own, greatest);
+        least = extended(Question::Least, own, least);
     }
     ChainedBoth { greatest, least }
 }

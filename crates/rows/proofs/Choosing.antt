@@ -2,8 +2,7 @@
 use mathlib.Core.Path.{_≡_, refl, sym, _∙_, ap, subst}
 use mathlib.Core.Bool.{Bool, true, false, true≢false}
 use mathlib.Core.Option.{Option, none, some}
-use mathlib.Core.List.{List}
-use Prim.Native.Nat.{ℕ, zero, suc, _+_, _≤_}
+use Prim.Native.Nat.{ℕ, zero, suc, _+_}
 use native.Mathlib.Numerals.{add-one}
 use native.Mathlib.Omega.{arith}
 use lib.Dec.{eqb}
@@ -19,14 +18,9 @@ use Rattle.model.specs.Job.{Effect, Limit, service, ultimate, Live, Row}
 use Rattle.model.specs.Rows.{bestRow, Governs, laterIfBetter, isOf, governing}
 use Rattle.model.specs.declared.Governing.{Governing}
 use Rattle.model.specs.declared.State.the-variants.{Absent, Reported}
-use Rattle.rows.specs.Tables.{TablesFit}
 use Rattle.rows.specs.declared.state.RowBoth.{RowBoth}
 use Rattle.rows.specs.declared.state.Found.{Found}
 use Rattle.rows.specs.Governed.{RowRight, rowFor, governs, governed, found, laterRow, withRow, RowFound, FoundRight, stateBy, StateFound}
-
--- the first rows of tables that fit
-pub tables-to : {effects rows records : List ℕ} {n count : ℕ} (m : ℕ) → TablesFit effects rows records n count → m ≤ n → TablesFit effects rows records m count
-tables-to m t h = let l = t .long in record { effects = t .effects; records = t .records; long = omega arith; rows = λ r f k. t .rows r f (omega arith) }
 
 module _ (q : Question) (effect : ℕ → Effect) (row : ℕ → Row) (traffic : Live → ℤ) (limit : Limit) where
   -- the later row, as the model has it

@@ -1,4 +1,5 @@
 mod Loaded
+mod BuiltIn
 pub mod Choosing
 pub mod Sections
 pub mod LimitStates

@@ -2,7 +2,7 @@
 use mathlib.Core.Path.{_≡_, refl, sym, _∙_, ap, ap₂}
 use mathlib.Core.Option.{Option}
 use mathlib.Core.List.{List}
-use Prim.Native.Nat.{ℕ, zero, suc, _<_, zero-le}
+use Prim.Native.Nat.{ℕ, zero, suc, _<_}
 use lib.IntN.{ℤ, pos, _+ℤ_, _*ℤ_}
 use Rattle.exact.specs.Choice.{if_then_else_}
 use Rattle.exact.specs.Questions.{better, extreme}
@@ -51,14 +51,15 @@ module _ (job : Job) (patch : List ℕ) (a : Account) (limit : Limit) (signed : 
         unbeatenUnladen = unbeaten-unladen q job limit (governed x) value;
         unbeaten = unbeaten-laden q job limit (governed x) value signed spaced;
         rowOf = governing-row q job limit (governed x) value .0;
-        alternative = 0;
-        among = zero-le;
-        mayOmit = s .right .mayOmit;
+        alternative = s .right .alternative;
+        among = s .right .among;
+        mayOmit = s .right .right .mayOmit;
         gives =
-            ap (rowValue (job .effect) row 0 (omits (x .omitted)))
+            ap (rowValue (job .effect) row (s .right .alternative) (omits (x .omitted)))
             (counted-given q job patch a (x .unladen) (row .live) (g .gives (row .live)) ∙ ap (λ (z : ℤ). if x .unladen then pos 0 else z) (sym (g .values (row .live))))
-            ∙ s .right .gives;
-        laden = s .right .laden;
+            ∙ s .right .right .gives;
+        shown = s .right .shown;
+        laden = s .right .right .laden;
       }
 
   -- the state

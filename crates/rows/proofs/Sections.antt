@@ -5,9 +5,10 @@ use mathlib.Core.List.{List}
 use Prim.Native.Nat.{ℕ, _+_, _-_, _*_, _≤_}
 use native.Mathlib.Omega.{arith}
 use lib.ListN.{length}
-use Rattle.model.specs.Format.{headerOf, words, sectionOf}
+use Rattle.model.specs.Format.{headerOf, words, bytes, sectionOf}
 use Rattle.model.specs.Decode.{firstRecord}
 use Rattle.model.specs.Refusals.{jobVerdict, chainReturns, chainNamesTwice}
+use Rattle.model.specs.declared.Edition.the-variants.{Fourth}
 use Rattle.model.specs.declared.Part.{Part}
 use Rattle.model.specs.declared.Part.the-variants.{Effects, Rows, Records}
 use Rattle.model.proofs.Sections.{section-length}
@@ -54,5 +55,8 @@ module _ (b : List ℕ) (accepted : jobVerdict b ≡ none) where
             (ap (chainReturns b) (sym same) ∙ no-return b (c .c7) (r - 1) (omega arith)) (ap (chainNamesTwice b) (sym same) ∙ no-repeat b (c .c7) (r - 1) (omega arith) (c .c8));
       }
 
-  pub tables-fit : TablesFit (sectionOf b Effects) (sectionOf b Rows) (sectionOf b Records) (headerOf b .rows) (headerOf b .records)
-  tables-fit = record { effects = effects; records = records; long = omega (arith, long Rows); rows = rows }
+  eleven : headerOf b .edition ≡ Fourth → bytes Effects * 11 ≤ length (sectionOf b Effects)
+  eleven e = omega (arith, long Effects, header-fits b (c .c2) .eleven e)
+
+  pub tables-fit : TablesFit (sectionOf b Effects) (sectionOf b Rows) (sectionOf b Records) (headerOf b)
+  tables-fit = record { effects = effects; records = records; long = omega (arith, long Rows); rows = rows; eleven = eleven }

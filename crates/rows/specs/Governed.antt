@@ -1,18 +1,18 @@
 -- What a row's best value, and a limit state's, come with.
-use Prim.Native.Nat.{ℕ}
+use Prim.Native.Nat.{ℕ, _≤_}
 use mathlib.Core.Path.{_≡_}
 use mathlib.Core.Bool.{Bool, true, false}
 use mathlib.Core.Option.{Option, none, some}
 use lib.Dec.{eqb}
-use lib.IntN.{ℤ, pos, _+ℤ_}
+use lib.IntN.{ℤ, pos, _+ℤ_, _*ℤ_}
 use Rattle.exact.specs.Bounds.{Within}
 use Rattle.exact.specs.Choice.{if_then_else_}
-use Rattle.exact.specs.Questions.{beats}
+use Rattle.exact.specs.Questions.{better, beats}
 use Rattle.exact.specs.declared.Question.{Question}
 use Rattle.exact.specs.declared.Question.the-variants.{Greatest, Least}
 use Rattle.magnitudes.specs.Magnitudes.{trafficMost}
 use Rattle.model.specs.Job.{Effect, Limit, service, ultimate, Live, noTraffic, normal, overload, Row}
-use Rattle.model.specs.Rows.{rowValue, MayOmit, bestRow, Governs, governing}
+use Rattle.model.specs.Rows.{rowValue, MayOmit, bestChain, bestRow, Governs, governing}
 use Rattle.model.specs.Answered.{omits}
 use Rattle.model.specs.declared.Governing.{Governing}
 use Rattle.model.specs.declared.State.{State}
@@ -49,24 +49,32 @@ abbrev pub LiveFits : LiveBoth → Type 0
 LiveFits v = (q : Question) → PairFits (liveFor q v)
 
 -- ---- a row
--- row r by its chain and its traffic: the traffic is left out where that is better
-abbrev pub ladenRow : Question → ℕ → Chained → ℤ → Governing
-ladenRow q r chain loaded =
+-- row r, which shows k, by its chain and its traffic: the traffic is left out where that is better
+abbrev pub ladenRow : Question → (r k : ℕ) → Chained → ℤ → Governing
+ladenRow q r k chain loaded =
     if beats q (pos 0) loaded
-    then record { value = chain .value; row = r; omitted = chain .omitted; unladen = true }
-    else record { value = chain .value +ℤ loaded; row = r; omitted = chain .omitted; unladen = false }
+    then record { value = chain .value; row = r; omitted = chain .omitted; unladen = true; k = k }
+    else record { value = chain .value +ℤ loaded; row = r; omitted = chain .omitted; unladen = false; k = k }
 
 -- a question's row
 abbrev pub rowFor : Question → RowBoth → Governing
 rowFor Greatest x = x .greatest
 rowFor Least x = x .least
 
--- a row's value is right: it equals the model's, its omissions are allowed by its first alternative and, with the traffic where it counts, give it exactly; where the row has no traffic, none is left out
+-- a row's value is right by an alternative: it is that one's best, its omissions are allowed and, with the traffic where it counts, give it exactly; where the row has no traffic, none is left out
+pub record AlternativeRight (q : Question) (effect : ℕ → Effect) (row : Row) (traffic : Live → ℤ) (alternative : ℕ) (x : Governing) : Type 0 where
+  pub value : x .value ≡ bestChain q effect (row .chain alternative) +ℤ better q (pos 0) (pos (row .factor) *ℤ traffic (row .live))
+  pub mayOmit : MayOmit effect (row .chain alternative) (omits (x .omitted))
+  pub gives : rowValue effect row alternative (omits (x .omitted)) (if x .unladen then pos 0 else traffic (row .live)) ≡ x .value
+  pub laden : row .live ≡ noTraffic → x .unladen ≡ false
+
+-- a row's value is right: it equals the model's, and is right by one of its alternatives, whose k is shown
 pub record RowRight (q : Question) (effect : ℕ → Effect) (row : ℕ → Row) (traffic : Live → ℤ) (x : Governing) : Type 0 where
   pub value : x .value ≡ bestRow q effect traffic (row (x .row))
-  pub mayOmit : MayOmit effect (row (x .row) .chain 0) (omits (x .omitted))
-  pub gives : rowValue effect (row (x .row)) 0 (omits (x .omitted)) (if x .unladen then pos 0 else traffic (row (x .row) .live)) ≡ x .value
-  pub laden : row (x .row) .live ≡ noTraffic → x .unladen ≡ false
+  pub alternative : ℕ
+  pub among : alternative ≤ row (x .row) .others
+  pub right : AlternativeRight q effect (row (x .row)) traffic alternative x
+  pub shown : x .k ≡ row (x .row) .k alternative
 
 -- ---- the governing rows
 -- the best of a state's rows among rows 1 .. n, each at its best

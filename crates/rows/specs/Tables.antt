@@ -1,10 +1,13 @@
 -- What is asked of the effect, row and record sections before they are combined. An item's words are in its section where the item's number times its bytes is at most the section's length.
 use Prim.Native.Nat.{ℕ, _+_, _-_, _*_, _≤_}
+use mathlib.Core.Path.{_≡_}
 use mathlib.Core.List.{List}
 use lib.ListN.{length}
 use Rattle.words.specs.Words.{countAt}
 use Rattle.model.specs.Format.{size, bytes}
-use Rattle.model.specs.declared.Part.the-variants.{Rows, Records}
+use Rattle.model.specs.declared.Edition.the-variants.{Fourth}
+use Rattle.model.specs.declared.Header.{Header}
+use Rattle.model.specs.declared.Part.the-variants.{Effects, Rows, Records}
 use Rattle.model.specs.Decode.{firstRecord, termsFrom}
 use Rattle.omissions.specs.ChainTables.{Distinct, EffectsInReach, RecordsInTables}
 
@@ -15,9 +18,10 @@ pub record RowInTables (records : List ℕ) (count : ℕ) (s : List ℕ) (r : �
   pub first : bytes Records * firstRecord s r ≤ length records
   pub distinct : Distinct (termsFrom records count (firstRecord s r))
 
--- the three sections together, of n rows and chains of at most `count` records
-pub record TablesFit (e w s : List ℕ) (n count : ℕ) : Type 0 where
+-- the three sections together, by the job's header: the rows that it gives, with chains of at most as many records as it gives, and a rural bridge's eleven effects
+pub record TablesFit (e w s : List ℕ) (head : Header) : Type 0 where
   pub effects : EffectsInReach e
   pub records : RecordsInTables e s
-  pub long : bytes Rows * n ≤ length w
-  pub rows : (r : ℕ) → 1 ≤ r → r ≤ n → RowInTables s count w r
+  pub long : bytes Rows * head .rows ≤ length w
+  pub rows : (r : ℕ) → 1 ≤ r → r ≤ head .rows → RowInTables s (head .records) w r
+  pub eleven : head .edition ≡ Fourth → bytes Effects * 11 ≤ length e

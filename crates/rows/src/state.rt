@@ -1,23 +1,30 @@
 // The rows' best values, and the governing row of each limit state for each question.
 use exact::Question;
+use model::Edition;
 use model::Governing;
+use model::Header;
 use model::State;
 use omissions::Chained;
+use omissions::ChainedBoth;
 ghost use mathlib.Core.Path.{_≡_};
-ghost use Prim.Native.Nat.{_+_, _-_, _*_, _≤_, _<_};
-ghost use lib.Dec.{eqb};
+ghost use mathlib.Core.List.{List};
+ghost use Prim.Native.Nat.{ℕ, _+_, _-_, _*_, _≤_, _<_};
 ghost use lib.IntN.{pos, _*ℤ_};
 ghost use lib.ListN.{length};
 ghost use Rattle.exact.specs.Bounds.{Within};
+ghost use Rattle.exact.specs.Choice.{if_then_else_};
 ghost use Rattle.exact.specs.declared.Question.{Question};
 ghost use Rattle.model.specs.Format.{size, bytes};
-ghost use Rattle.model.specs.declared.Part.the-variants.{Rows};
+ghost use Rattle.model.specs.declared.Part.the-variants.{Effects, Rows};
 ghost use Rattle.magnitudes.specs.Magnitudes.{trafficMost, shareMost, chainMost};
 ghost use Rattle.words.specs.Words.{countAt};
-ghost use Rattle.model.specs.Decode.{effectAt, liveOf, firstRecord, rowAt};
-ghost use Rattle.model.specs.Job.{Limit};
-ghost use Rattle.rows.specs.Tables.{TablesFit};
-ghost use Rattle.rows.specs.Governed.{liveValue, trafficOf, PairFits, LiveFits, ladenRow, rowFor, RowRight, laterRow, laterRows, withRow, FoundRight, stateBy, stateFor, StateFound};
+ghost use Rattle.model.specs.Decode.{effectAt, liveOf, firstRecord, rowAt, rowCount, rowOf};
+ghost use Rattle.model.specs.Job.{Limit, service, ultimate};
+ghost use Rattle.model.specs.RuralBridges.{groupRows, groupRow};
+ghost use Rattle.groups.specs.FactorLines.{lineRow, lineAlternative};
+ghost use Rattle.omissions.specs.ChainTables.{EffectsInReach, RecordsInTables};
+ghost use Rattle.rows.specs.Tables.{RowInTables, TablesFit};
+ghost use Rattle.rows.specs.Governed.{liveValue, trafficOf, PairFits, LiveFits, ladenRow, rowFor, AlternativeRight, RowRight, laterRow, laterRows, withRow, FoundRight, stateBy, stateFor, StateFound};
 
 // The best traffic value of each live kind for one question, in N·U.
 pub struct LiveValues {
@@ -63,10 +70,10 @@ fn loaded(rows: &[u8], r: usize, live: LiveValues) -> i64
     (factor as i64) * traffic(kind, live)
 }
 
-// Row r by its chain and its traffic, which counts or is left out.
-fn laden(q: Question, r: usize, chain: Chained, loaded: i64) -> Governing
+// Row r, which shows k, by its chain and its traffic, which counts or is left out.
+fn laden(q: Question, r: usize, k: u16, chain: Chained, loaded: i64) -> Governing
     requires { ⌜ Within chainMost (chain .value) × Within shareMost loaded ⌝ }
-    ensures { λ x. ⌜ x ≡ ladenRow q r chain loaded ⌝ }
+    ensures { λ x. ⌜ x ≡ ladenRow q r k chain loaded ⌝ }
 {
     if exact::beats(q, 0, loaded) {
         return Governing {
@@ -74,6 +81,7 @@ fn laden(q: Question, r: usize, chain: Chained, loaded: i64) -> Governing
             row: r,
             omitted: chain.omitted,
             unladen: true,
+            k,
         };
     }
     Governing {
@@ -81,6 +89,7 @@ fn laden(q: Question, r: usize, chain: Chained, loaded: i64) -> Governing
         row: r,
         omitted: chain.omitted,
         unladen: false,
+        k,
     }
 }
 
@@ -88,6 +97,17 @@ fn laden(q: Question, r: usize, chain: Chained, loaded: i64) -> Governing
 pub struct RowBoth {
     pub greatest: Governing,
     pub least: Governing,
+}
+
+// Row r, which shows k, by its chain and its traffic for each question.
+fn laden_both(r: usize, k: u16, chains: ChainedBoth, most: i64, lowest: i64) -> RowBoth
+    requires { ⌜ Within chainMost (chains .greatest .value) × Within chainMost (chains .least .value) × Within shareMost most × Within shareMost lowest ⌝ }
+    ensures { λ x. ⌜ (x .greatest ≡ ladenRow Question.Greatest r k (chains .greatest) most) × (x .least ≡ ladenRow Question.Least r k (chains .least) lowest) ⌝ }
+{
+    RowBoth {
+        greatest: laden(Question::Greatest, r, k, chains.greatest, most),
+        least: laden(Question::Least, r, k, chains.least, lowest),
+    }
 }
 
 // Row r's first record.
@@ -98,8 +118,8 @@ fn first_record(rows: &[u8], r: usize) -> usize
     word(rows, r, 3)
 }
 
-// Row r's best value for each question.
-fn row(
+// Row r of the row section at its best for each question; it shows no k.
+fn listed(
     effects: &[u8],
     rows: &[u8],
     records: &[u8],
@@ -107,16 +127,13 @@ fn row(
     live: LiveBoth,
     r: usize,
 ) -> RowBoth
-    requires { ⌜ TablesFit (now effects) (now rows) (now records) r count × (1 ≤ r) × LiveFits live ⌝ }
+    requires { ⌜ EffectsInReach (now effects) × RecordsInTables (now effects) (now records) × (1 ≤ r) × (bytes Rows * r ≤ length (now rows)) × RowInTables (now records) count (now rows) r × LiveFits live ⌝ }
     ensures { λ x. ⌜ ((q : Question) → (rowFor q x .row ≡ r) × RowRight q (effectAt (now (effects .entry))) (rowAt (now (rows .entry)) (now (records .entry)) count) (trafficOf live q) (rowFor q x)) ⌝ }
 {
     let c = omissions::best(effects, records, first_record(rows, r), count);
     let most = loaded(rows, r, live.greatest);
     let least = loaded(rows, r, live.least);
-    RowBoth {
-        greatest: laden(Question::Greatest, r, c.greatest, most),
-        least: laden(Question::Least, r, c.least, least),
-    }
+    laden_both(r, 0, c, most, least)
 }
 
 // The later row if it beats the earlier, or if there is none.
@@ -139,6 +156,58 @@ fn later_both(sofar: RowBoth, next: RowBoth) -> RowBoth
     RowBoth {
         greatest: later(Question::Greatest, sofar.greatest, next.greatest),
         least: later(Question::Least, sofar.least, next.least),
+    }
+}
+
+// The traffic of a line of the factors of rural bridges: its live factor times the value of the normal kind.
+fn line_loaded(line: usize, live: LiveValues) -> i64
+    requires { ⌜ (line < 21) × PairFits live ⌝ }
+    ensures { λ x. ⌜ (x ≡ pos (groupRow (lineRow line) .factor) *ℤ liveValue live (groupRow (lineRow line) .live)) × Within shareMost x ⌝ }
+{
+    let factors = groups::factors(line);
+    (factors[0] as i64) * live.normal
+}
+
+// Row r, which shows k, by a line of the factors of rural bridges, for each question.
+fn by_line(effects: &[u8], line: usize, r: usize, k: u16, live: LiveBoth) -> RowBoth
+    requires { ⌜ EffectsInReach (now effects) × (bytes Effects * 11 ≤ length (now effects)) × (line < 21) × LiveFits live ⌝ }
+    ensures { λ x. ⌜ ((q : Question) → (rowFor q x .row ≡ r) × (rowFor q x .k ≡ k) × AlternativeRight q (effectAt (now (effects .entry))) (groupRow (lineRow line)) (trafficOf live q) (lineAlternative line) (rowFor q x)) ⌝ }
+{
+    let c = omissions::of_group(effects, line);
+    let most = line_loaded(line, live.greatest);
+    let least = line_loaded(line, live.least);
+    laden_both(r, k, c, most, least)
+}
+
+// Row r of a rural bridge by its better alternative for each question: row 16 has one with k 1.3 and one with k 0.8.
+fn built_in(effects: &[u8], live: LiveBoth, r: usize) -> RowBoth
+    requires { ⌜ EffectsInReach (now effects) × (bytes Effects * 11 ≤ length (now effects)) × (1 ≤ r) × (r ≤ groupRows) × LiveFits live ⌝ }
+    ensures { λ x. ⌜ ((q : Question) → (rowFor q x .row ≡ r) × RowRight q (effectAt (now (effects .entry))) groupRow (trafficOf live q) (rowFor q x)) ⌝ }
+{
+    if r == 16 {
+        let first = by_line(effects, 15, r, 1300, live);
+        let second = by_line(effects, 20, r, 800, live);
+        return later_both(first, second);
+    }
+    by_line(effects, r - 1, r, 0, live)
+}
+
+// Row r of the job at its best for each question.
+fn row(
+    effects: &[u8],
+    rows: &[u8],
+    records: &[u8],
+    head: Header,
+    live: LiveBoth,
+    r: usize,
+) -> RowBoth
+    requires { ⌜ TablesFit (now effects) (now rows) (now records) head × (1 ≤ r) × (r ≤ rowCount (head .edition) (head .rows)) × LiveFits live ⌝ }
+    ensures { λ x. ⌜ ((q : Question) → (rowFor q x .row ≡ r) × RowRight q (effectAt (now (effects .entry))) (rowOf (head .edition) (now (rows .entry)) (now (records .entry)) (head .records)) (trafficOf live q) (rowFor q x)) ⌝ }
+{
+    let edition = head.edition;
+    match edition {
+        Edition::First => listed(effects, rows, records, head.records, live, r),
+        Edition::Fourth => built_in(effects, live, r),
     }
 }
 
@@ -167,30 +236,39 @@ fn with_row(service: bool, sofar: Found, next: RowBoth) -> Found
 }
 
 // Row r is of the service state.
-fn of_service(rows: &[u8], r: usize) -> bool
-    requires { ⌜ (1 ≤ r) × (bytes Rows * r ≤ length (now rows)) ⌝ }
-    ensures { λ b. ⌜ b ≡ eqb (countAt (now (rows .entry)) (size Rows * (r - 1))) 1 ⌝ }
+fn of_service(rows: &[u8], head: Header, r: usize) -> bool
+    requires { ⌜ (1 ≤ r) × (r ≤ rowCount (head .edition) (head .rows)) × (bytes Rows * head .rows ≤ length (now rows)) ⌝ }
+    ensures { λ b. ⌜ ((records : List ℕ) → rowOf (head .edition) (now (rows .entry)) records (head .records) r .limit ≡ (if b then service else ultimate)) ⌝ }
 {
-    word(rows, r, 0) == 1
+    let edition = head.edition;
+    match edition {
+        Edition::First => word(rows, r, 0) == 1,
+        Edition::Fourth => r <= 10,
+    }
 }
 
-// The governing rows among rows 1 to n.
-fn governing(
-    effects: &[u8],
-    rows: &[u8],
-    records: &[u8],
-    n: usize,
-    count: usize,
-    live: LiveBoth,
-) -> Found
-    requires { ⌜ TablesFit (now effects) (now rows) (now records) n count × LiveFits live ⌝ }
-    ensures { λ x. ⌜ FoundRight (effectAt (now (effects .entry))) (rowAt (now (rows .entry)) (now (records .entry)) count) (trafficOf live) n x ⌝ }
+// How many rows the job has.
+fn row_count(head: Header) -> usize
+    ensures { λ n. ⌜ n ≡ rowCount (head .edition) (head .rows) ⌝ }
+{
+    let edition = head.edition;
+    match edition {
+        Edition::First => head.rows,
+        Edition::Fourth => 20,
+    }
+}
+
+// The governing rows among all of the job's.
+fn governing(effects: &[u8], rows: &[u8], records: &[u8], head: Header, live: LiveBoth) -> Found
+    requires { ⌜ TablesFit (now effects) (now rows) (now records) head × LiveFits live ⌝ }
+    ensures { λ x. ⌜ FoundRight (effectAt (now (effects .entry))) (rowOf (head .edition) (now (rows .entry)) (now (records .entry)) (head .records)) (trafficOf live) (rowCount (head .edition) (head .rows)) x ⌝ }
 {
     let none = Governing {
         value: 0,
         row: 0,
         omitted: 0,
         unladen: false,
+        k: 0,
     };
     let nothing = RowBoth {
         greatest: none,
@@ -200,9 +278,10 @@ fn governing(
         service: nothing,
         ultimate: nothing,
     };
+    let n = row_count(head);
     for i in 0..n {
-        let next = row(effects, rows, records, count, live, i + 1);
-        found = with_row(of_service(rows, i + 1), found, next);
+        let next = row(effects, rows, records, head, live, i + 1);
+        found = with_row(of_service(rows, head, i + 1), found, next);
     }
     found
 }
@@ -225,19 +304,18 @@ pub struct LimitStates {
     pub ultimate: State,
 }
 
-// The limit states of n rows, with chains of at most `count` records.
+// The limit states of a job.
 pub fn states(
     effects: &[u8],
     rows: &[u8],
     records: &[u8],
-    n: usize,
-    count: usize,
+    head: Header,
     live: LiveBoth,
 ) -> LimitStates
-    requires { ⌜ TablesFit (now effects) (now rows) (now records) n count × LiveFits live ⌝ }
-    ensures { λ s. ⌜ ((limit : Limit) → StateFound (effectAt (now (effects .entry))) (rowAt (now (rows .entry)) (now (records .entry)) count) (trafficOf live) limit n (stateFor limit s)) ⌝ }
+    requires { ⌜ TablesFit (now effects) (now rows) (now records) head × LiveFits live ⌝ }
+    ensures { λ s. ⌜ ((limit : Limit) → StateFound (effectAt (now (effects .entry))) (rowOf (head .edition) (now (rows .entry)) (now (records .entry)) (head .records)) (trafficOf live) limit (rowCount (head .edition) (head .rows)) (stateFor limit s)) ⌝ }
 {
-    let found = governing(effects, rows, records, n, count, live);
+    let found = governing(effects, rows, records, head, live);
     let served = found.service;
     let ultimate = found.ultimate;
     LimitStates {

@@ -1,19 +1,21 @@
-use mathlib.Core.Path.{_≡_}
+use mathlib.Core.Path.{_≡_, subst}
 use mathlib.Core.List.{[]}
-use Prim.Native.Nat.{_-_, _*_, _≤_}
+use Prim.Native.Nat.{ℕ, _-_, _*_, _≤_}
 use native.Mathlib.Nat.{pos-of-ne-zero}
 use native.Mathlib.Omega.{arith}
 use lib.ListN.{length}
 use Rattle.exact.specs.declared.Question.{Question}
 use Rattle.exact.specs.declared.Question.the-variants.{Greatest, Least}
 use Rattle.exact.proofs.Extremes.{by-question}
+use Rattle.model.specs.Chains.{recordFactor}
 use Rattle.model.specs.Decode.{effectAt, termsFrom}
-use Rattle.omissions.specs.ChainTables.{NamesTo}
-use Rattle.omissions.specs.Chained.{chainFor, ChainRight}
+use Rattle.omissions.specs.ChainTables.{NamesTo, RecordInTables}
+use Rattle.omissions.specs.Chained.{termOf, termAt, ShareRight, chainFor, ChainRight}
 use Rattle.model.specs.Format.{bytes}
 use Rattle.model.specs.declared.Part.the-variants.{Records}
 use Rattle.omissions.proofs.Terms.{terms-none, terms-spent}
 use Rattle.omissions.proofs.Omissions.{terms-named, Sofar, sofar-start, sofar-next, sofar-near, sofar-all}
+use borrow.Author.Needs.{needs}
 use Rattle.omissions.proofs.best.Statement.{statement}
 use Rattle.omissions.proofs.best.Tie as tie
 
@@ -48,46 +50,66 @@ module _ (c : tie.At-loop Inv-loop μ-loop) where
 returns : tie.Need-returns Inv-loop μ-loop
 returns c = let l = c .before .before in ended l (terms-none (s l .args .records .now) (s l .args .count - l .loop .counter) (l .loop .c) (c .if1 .taken))
 
-share-of-requires : tie.Need-share-of-requires Inv-loop μ-loop
-share-of-requires c κs = let l = c .before .before in (s l .pre .0, s l .pre .1, pos-of-ne-zero (c .if1 .left), l .loop .inv .3)
-
-extended-requires : tie.Need-extended-requires Inv-loop μ-loop
-extended-requires c κs =
-    let l = c .before .before .before in
-    (c .share-of .ensures .near, sofar-near Greatest _ (l .loop .inv .0) (s l .pre .3) (named l))
-
-extended-requires-2 : tie.Need-extended-requires-2 Inv-loop μ-loop
-extended-requires-2 c κs =
-    let l = c .before .before .before .before in
-    (c .before .share-of .ensures .near, sofar-near Least _ (l .loop .inv .1) (s l .pre .3) (named l))
-
--- past both
-module _ (c : tie.After-extended2 Inv-loop μ-loop) where
+-- where a record's effect has been read
+module _ (c : tie.After-effect Inv-loop μ-loop) where
   abbrev else : tie.Else1 Inv-loop μ-loop
-  else = c .before .before .before
+  else = c .before
 
   abbrev at : tie.At-loop Inv-loop μ-loop
   at = else .before .before
 
+  first : 1 ≤ at .loop .c
+  first = pos-of-ne-zero (else .if1 .left)
+
+  fits : RecordInTables (s at .args .effects .now) (s at .args .records .now) (at .loop .c)
+  fits = s at .pre .1 (at .loop .c) first (at .loop .inv .3)
+
+factor-requires : tie.Need-factor-requires Inv-loop μ-loop
+factor-requires c κs = (first c, at c .loop .inv .3)
+
+share-of-requires : tie.Need-share-of-requires Inv-loop μ-loop
+share-of-requires c κs =
+    let d = c .before in
+    let e = d .effect .ensures .0 in
+    (s (at d) .pre .0, rw e (fits d .effect), rw e (fits d .most), rw e (fits d .there), rw (c .factor .ensures .0) (fits d .factor))
+
+-- where its share has been made
+module _ (c : tie.After-share-of Inv-loop μ-loop) where
+  abbrev d : tie.After-effect Inv-loop μ-loop
+  d = c .before .before
+
+  own : ShareRight (effectAt (s (at d) .args .effects .now)) (termAt (s (at d) .args .records .now) (at d .loop .c)) (c .share-of .result)
+  own =
+      let effect = effectAt (s (at d) .args .effects .now) in
+      let f = c .before .factor in
+      subst (λ (k : ℕ). ShareRight effect (termOf k (recordFactor (s (at d) .args .records .now) (at d .loop .c))) (c .share-of .result)) (d .effect .ensures .0)
+      (subst (λ (k : ℕ). ShareRight effect (termOf (d .effect .result) k) (c .share-of .result)) (f .ensures .0) (c .share-of .ensures))
+
+extended-requires : tie.Need-extended-requires Inv-loop μ-loop
+extended-requires c κs = let l = at (d c) in (own c .near, sofar-near Greatest _ (l .loop .inv .0) (s l .pre .3) (named l))
+
+extended-requires-2 : tie.Need-extended-requires-2 Inv-loop μ-loop
+extended-requires-2 c κs = let b = c .before in let l = at (d b) in (own b .near, sofar-near Least _ (l .loop .inv .1) (s l .pre .3) (named l))
+
 next-requires : tie.Need-next-requires Inv-loop μ-loop
-next-requires c κs = (pos-of-ne-zero (else c .if1 .left), at c .loop .inv .3)
+next-requires c κs = let e = d (c .before .before) in (first e, at e .loop .inv .3)
 
 loop-again : tie.Need-loop-again Inv-loop μ-loop
 loop-again c =
-    let d = c .before in
-    let l = at d .loop in
-    let a = s (at d) .args in
-    let here = else d .if1 .left in
-    let own = d .before .before .share-of .ensures in
+    let shared = c .before .before .before in
+    let e = d shared in
+    let l = at e .loop in
+    let a = s (at e) .args in
+    let here = else e .if1 .left in
     let n = c .next .ensures .0 in (
-      rw (d .before .extended .ensures) (sofar-next Greatest (effectAt (a .effects .now)) (a .records .now) _ (a .count) (l .counter) (l .c) (c .next .result) _ (l .greatest) here (omega arith) n own (l .inv .0)),
-      rw (d .extended2 .ensures) (sofar-next Least (effectAt (a .effects .now)) (a .records .now) _ (a .count) (l .counter) (l .c) (c .next .result) _ (l .least) here (omega arith) n own (l .inv .1)),
+      rw (c .before .before .extended .ensures) (sofar-next Greatest (effectAt (a .effects .now)) (a .records .now) _ (a .count) (l .counter) (l .c) (c .next .result) _ (l .greatest) here (omega arith) n (own shared) (l .inv .0)),
+      rw (c .before .extended2 .ensures) (sofar-next Least (effectAt (a .effects .now)) (a .records .now) _ (a .count) (l .counter) (l .c) (c .next .result) _ (l .least) here (omega arith) n (own shared) (l .inv .1)),
       omega arith,
-      rw n (s (at d) .pre .1 (l .c) (pos-of-ne-zero here) (l .inv .3) .next),
+      rw n (fits e .next),
     )
 
 returns-2 : tie.Need-returns-2 Inv-loop μ-loop
 returns-2 c = let l = c .before in ended l (terms-spent (s l .args .records .now) (s l .args .count - l .loop .counter) (l .loop .c) (omega arith))
 
 pub best-spec : {M : Type 1} → statement M
-best-spec = tie.close (tie.spec Inv-loop μ-loop loop-holds returns share-of-requires extended-requires extended-requires-2 next-requires (λ c. omega arith) (λ c. omega arith) loop-again returns-2)
+best-spec = tie.close (tie.spec Inv-loop μ-loop loop-holds returns (λ c κs. search needs) factor-requires share-of-requires extended-requires extended-requires-2 next-requires (λ c. omega arith) (λ c. omega arith) loop-again returns-2)

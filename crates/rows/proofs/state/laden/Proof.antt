@@ -14,8 +14,8 @@ returns c =
     let s = then .before .before in
     rw (known w64 (s .pre .0) (lit< tt) .is, ap (beats (s .args .q) (pos 0)) (sym (known w64 (s .pre .1) (lit< tt) .is)) ∙ sym (then .before .beats .ensures) ∙ then .if1 .taken) refl
 
-add-t6 : tie.Need-add-t6
-add-t6 c =
+add-t7 : tie.Need-add-t7
+add-t7 c =
     let s = c .before .before .before .before in
     plus! (known w64 (s .pre .0) (lit< tt)) (known w64 (s .pre .1) (lit< tt)) (lit< tt)
 
@@ -27,4 +27,4 @@ returns-2 c =
     rw (plus (known w64 (s .pre .0) (lit< tt)) load (lit< tt) .is, ap (beats (s .args .q) (pos 0)) (sym (load .is)) ∙ sym (else .before .beats .ensures) ∙ else .if1 .left) refl
 
 pub laden-spec : {M : Type 1} → statement M
-laden-spec = tie.close (tie.spec (λ c κs. search needs) returns add-t6 returns-2)
+laden-spec = tie.close (tie.spec (λ c κs. search needs) returns add-t7 returns-2)

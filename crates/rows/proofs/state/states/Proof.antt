@@ -1,4 +1,4 @@
-use Rattle.model.specs.Decode.{effectAt, rowAt}
+use Rattle.model.specs.Decode.{effectAt, rowCount, rowOf}
 use Rattle.model.specs.Job.{Limit, service, ultimate}
 use Rattle.rows.specs.Governed.{trafficOf, foundFor, StateFound, stateBy}
 use Rattle.rows.proofs.Choosing.{by-limit, state-found}
@@ -11,8 +11,8 @@ module _ (c : tie.After-governing) where
   abbrev s : tie.Start
   s = c .before .before .before .before
 
-  right : (limit : Limit) → StateFound (effectAt (s .args .effects .now)) (rowAt (s .args .rows .now) (s .args .records .now) (s .args .count)) (trafficOf (s .args .live)) limit (s .args .n) (stateBy (foundFor limit (c .governing .result)))
-  right limit = state-found _ _ (trafficOf (s .args .live)) limit (s .args .n) (foundFor limit (c .governing .result)) (c .governing .ensures limit)
+  right : (limit : Limit) → StateFound (effectAt (s .args .effects .now)) (rowOf (s .args .head .edition) (s .args .rows .now) (s .args .records .now) (s .args .head .records)) (trafficOf (s .args .live)) limit (rowCount (s .args .head .edition) (s .args .head .rows)) (stateBy (foundFor limit (c .governing .result)))
+  right limit = state-found _ _ (trafficOf (s .args .live)) limit (rowCount (s .args .head .edition) (s .args .head .rows)) (foundFor limit (c .governing .result)) (c .governing .ensures limit)
 
 returns : tie.Need-returns
 returns c =

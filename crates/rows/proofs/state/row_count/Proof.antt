@@ -1,0 +1,15 @@
+use mathlib.Core.Path.{sym, ap}
+use Rattle.model.specs.Decode.{rowCount}
+use Rattle.model.specs.declared.Edition.{Edition}
+use borrow.Author.Needs.{needs}
+use Rattle.rows.proofs.state.row_count.Statement.{statement}
+use Rattle.rows.proofs.state.row_count.Tie as tie
+
+returns : tie.Need-returns
+returns c = sym (ap (λ (e : Edition). rowCount e (c .before .before .args .head .rows)) (c .enum-told .given .1))
+
+returns-2 : tie.Need-returns-2
+returns-2 c = sym (ap (λ (e : Edition). rowCount e (c .before .before .args .head .rows)) (c .enum-told2 .given .1))
+
+pub row-count-spec : {M : Type 1} → statement M
+row-count-spec = tie.close (tie.spec (λ c. search needs) (λ c. search needs) returns returns-2)
