@@ -1,5 +1,5 @@
 -- What an accepted job gives each part of its account: its section has its words, within their limits.
-use mathlib.Core.Path.{_≡_, sym, _∙_, ap₂, subst}
+use mathlib.Core.Path.{_≡_, refl, sym, _∙_, ap₂, subst}
 use mathlib.Core.Bool.{true}
 use mathlib.Core.Logic.{inl, inr}
 use mathlib.Core.List.{List, [], _∷_}
@@ -8,17 +8,19 @@ use native.Mathlib.Omega.{arith}
 use lib.IntN.{ℤ, pos}
 use Rattle.exact.specs.declared.Question.{Question}
 use Rattle.model.specs.Job.{Live, Limit}
-use Rattle.model.specs.Decode.{decode, effectAt, rowAt}
+use Rattle.model.specs.Decode.{decode, effectAt, profileOf, rowCount, rowOf}
+use Rattle.model.specs.Lanes.{lanes}
 use Rattle.model.specs.declared.State.{State}
 use Rattle.model.specs.Dynamic.{dynamicFactor}
 use Rattle.model.specs.Format.{headerOf, dynamicFits, sectionOf}
+use Rattle.model.specs.declared.Edition.the-variants.{Fourth}
 use Rattle.model.specs.declared.Header.{Header}
 use Rattle.model.specs.declared.Part.the-variants.{Line, Transverse, Effects, Rows, Records}
 use Rattle.model.proofs.Counts.{OneOf}
 use Rattle.model.proofs.Verdict.{Clear, clear}
 use Rattle.model.proofs.HeaderLimits.{HeaderFits, header-fits, dynamic-range}
 use Rattle.model.proofs.LineLimits.{line-within, transverse-within, OneSigned}
-use Rattle.model.proofs.Accepted.{accepted-signed, accepted-spaced}
+use Rattle.model.proofs.Accepted.{accepted-signed, accepted-spaced, accepted-one-lane}
 use Rattle.sections.specs.Sized.{Sized}
 use Rattle.sections.proofs.Sizes.{is-sized, part-length}
 use Rattle.pair.specs.LineFits.{LineFits}
@@ -74,8 +76,17 @@ module _ {b : List ℕ} {head : Header} (ready : Ready b head) where
         near = λ k h. transverse-within b (c .c4) k (omega arith);
       })
 
-  pub tables : TablesFit (sectionOf b Effects) (sectionOf b Rows) (sectionOf b Records) (head .rows) (head .records)
-  tables = own (λ h. TablesFit (sectionOf b Effects) (sectionOf b Rows) (sectionOf b Records) (h .rows) (h .records)) (tables-fit b (ready .accepted))
+  pub tables : TablesFit (sectionOf b Effects) (sectionOf b Rows) (sectionOf b Records) head
+  tables = own (TablesFit (sectionOf b Effects) (sectionOf b Rows) (sectionOf b Records)) (tables-fit b (ready .accepted))
+
+  -- a rural bridge has one lane
+  pub one-lane : head .edition ≡ Fourth → lanes (decode b) ≡ 1
+  one-lane = own (λ h. h .edition ≡ Fourth → lanes (decode b) ≡ 1) (accepted-one-lane b (ready .accepted))
+
+  -- its loads are its edition's
+  pub profile-is : decode b .profile ≡ profileOf (head .edition)
+  unfolding decode
+  profile-is = own (λ h. profileOf (headerOf b .edition) ≡ profileOf (h .edition)) refl
 
   pub dynamic-limits : (1 ≤ head .kind) × ((head .kind ≤ 3) × (dynamicFits (pos (head .kind)) (pos (head .value)) ≡ true))
   dynamic-limits =
@@ -93,14 +104,15 @@ module _ {b : List ℕ} {head : Header} (ready : Ready b head) where
 
   -- the three sections as they were found
   module _ {e r s : List ℕ} (p : e ≡ sectionOf b Effects) (q : r ≡ sectionOf b Rows) (t : s ≡ sectionOf b Records) where
-    pub tables-found : TablesFit e r s (head .rows) (head .records)
+    pub tables-found : TablesFit e r s head
     tables-found = rw (p, q, t) tables
 
     -- a state found in them is the job's
-    pub state-found : (traffic : Question → Live → ℤ) (limit : Limit) (x : State) → StateFound (effectAt e) (rowAt r s (head .records)) traffic limit (head .rows) x → StateFound (decode b .effect) (decode b .row) traffic limit (decode b .rows) x
+    pub state-found : (traffic : Question → Live → ℤ) (limit : Limit) (x : State) → StateFound (effectAt e) (rowOf (head .edition) r s (head .records)) traffic limit (rowCount (head .edition) (head .rows)) x → StateFound (decode b .effect) (decode b .row) traffic limit (decode b .rows) x
     unfolding decode
     state-found traffic limit x f =
-        subst (λ (h : Header). StateFound (effectAt (sectionOf b Effects)) (rowAt (sectionOf b Rows) (sectionOf b Records) (h .records)) traffic limit (h .rows) x) (ready .own)
-        (subst (λ (l : List ℕ). StateFound (effectAt l) (rowAt (sectionOf b Rows) (sectionOf b Records) (head .records)) traffic limit (head .rows) x) p
-        (subst (λ (l : List ℕ). StateFound (effectAt e) (rowAt l (sectionOf b Records) (head .records)) traffic limit (head .rows) x) q
-        (subst (λ (l : List ℕ). StateFound (effectAt e) (rowAt r l (head .records)) traffic limit (head .rows) x) t f)))
+        let Found : Header → (effects rows records : List ℕ) → Type 0 =
+        λ h e r s. StateFound (effectAt e) (rowOf (h .edition) r s (h .records)) traffic limit (rowCount (h .edition) (h .rows)) x in
+        subst (λ (h : Header). Found h (sectionOf b Effects) (sectionOf b Rows) (sectionOf b Records)) (ready .own)
+        (subst (λ (l : List ℕ). Found head l (sectionOf b Rows) (sectionOf b Records)) p
+        (subst (λ (l : List ℕ). Found head e l (sectionOf b Records)) q (subst (Found head e r) t f)))

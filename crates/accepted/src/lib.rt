@@ -61,8 +61,9 @@ fn values(job: &[u8], head: Header, raising: Sought, lowering: Sought) -> Traffi
         head.width,
         head.spacing,
     );
-    let most = traffic::both(Question::Greatest, across, d, hn, ho);
-    let lowest = traffic::both(Question::Least, across, d, hn, ho);
+    let edition = head.edition;
+    let most = traffic::both(Question::Greatest, edition, across, d, hn, ho);
+    let lowest = traffic::both(Question::Least, edition, across, d, hn, ho);
     let ng = most.normal;
     let nl = lowest.normal;
     let og = most.overload;
@@ -90,7 +91,7 @@ fn limit_states(job: &[u8], head: Header, live: LiveBoth) -> LimitStates
     let effects = sections::section(job, head, Part::Effects);
     let rows = sections::section(job, head, Part::Rows);
     let records = sections::section(job, head, Part::Records);
-    state::states(effects, rows, records, head.rows, head.records, live)
+    state::states(effects, rows, records, head, live)
 }
 
 // The account of an accepted job; the patch bytes that its placements go with are not in it.

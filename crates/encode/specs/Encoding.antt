@@ -45,9 +45,9 @@ abbrev pub flagNumber : Bool → ℕ
 flagNumber false = 0
 flagNumber true = 1
 
--- a limit state's value in thousandths of N·U, its row, the effects left out, and whether the traffic is; its k is reserved
+-- a limit state's value in thousandths of N·U, its row, the effects left out, whether the traffic is, and k in thousandths
 abbrev pub governingNumbers : Governing → List ℤ
-governingNumbers g = g .value ∷ pos (g .row) ∷ pos (g .omitted) ∷ pos (flagNumber (g .unladen)) ∷ pos 0 ∷ []
+governingNumbers g = g .value ∷ pos (g .row) ∷ pos (g .omitted) ∷ pos (flagNumber (g .unladen)) ∷ pos (g .k) ∷ []
 
 -- whether a limit state is reported, its greatest and its least; zeros for none
 abbrev pub limitNumbers : State → List ℤ

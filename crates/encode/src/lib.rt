@@ -47,7 +47,7 @@ fn put_position(out: &mut [u8], at: usize, p: Position) -> usize
     numbers::put_count(out, end, placements::side_number(side))
 }
 
-// A limit state's value, its row, the effects left out, whether the traffic is, and the reserved k.
+// A limit state's value, its row, the effects left out, whether the traffic is, and k.
 fn put_governing(out: &mut [u8], at: usize, g: Governing) -> usize
     requires { ⌜ at + 40 ≤ length (now out) ⌝ }
     requires { ⌜ g .row < 2 ^ 63 ⌝ }
@@ -57,7 +57,7 @@ fn put_governing(out: &mut [u8], at: usize, g: Governing) -> usize
     end = numbers::put_count(out, end, g.row as u64);
     end = numbers::put_count(out, end, g.omitted as u64);
     end = numbers::put_count(out, end, flag_number(g.unladen));
-    numbers::put_count(out, end, 0)
+    numbers::put_count(out, end, g.k as u64)
 }
 
 // A reported limit state: 1, its greatest and its least.

@@ -1,4 +1,4 @@
-use mathlib.Core.Path.{_≡_, sym, subst}
+use mathlib.Core.Path.{_≡_, sym, _∙_, subst}
 use mathlib.Core.List.{List}
 use Prim.Native.Nat.{ℕ, _≤_}
 use lib.Dec.{lit≤}
@@ -14,7 +14,7 @@ use Rattle.lanes.specs.Entries.{LineEffectsFit}
 use Rattle.lanes.specs.Loadings.{effectsOf}
 use Rattle.lanes.specs.declared.traffic.Effects.{Effects}
 use Rattle.lanes.proofs.Elements.{wider}
-use Rattle.accepted.proofs.Fits.{sized, across-fits, dynamic-limits, dynamic}
+use Rattle.accepted.proofs.Fits.{sized, across-fits, dynamic-limits, dynamic, one-lane, profile-is}
 use Rattle.accepted.proofs.Loads.{handed, effects-are, effects-fit, spanned, factor-is}
 use Rattle.accepted.proofs.values.Statement.{statement}
 use Rattle.accepted.proofs.values.Tie as tie
@@ -81,7 +81,7 @@ module _ (c : tie.After-across-of) where
 
 -- HN's line effects fit where HO's are asked for, so only what is ensured tells them apart
 both-requires : tie.Need-both-requires
-both-requires c κs = (c .across-of .ensures .fits, limits c .0, limits c .1, hn-fit c, search (hn-wide c, ho-fit c))
+both-requires c κs = (c .across-of .ensures .fits, λ r. over c .lanes ∙ one-lane (st c .pre .0) r, limits c .0, limits c .1, hn-fit c, search (hn-wide c, ho-fit c))
 
 returns : tie.Need-returns
 returns c =
@@ -89,8 +89,9 @@ returns c =
     let at = found .before .before in
     let most = found .before .both .ensures in
     let lowest = found .both2 .ensures in
-    let g = most .2 (job at) (over at) (factor at _) (hn-are at) (ho-are at) in
-    let l = lowest .2 (job at) (over at) (factor at _) (hn-are at) (ho-are at) in
+    let loads = profile-is (st at .pre .0) in
+    let g = most .2 (job at) (over at) loads (factor at _) (hn-are at) (ho-are at) in
+    let l = lowest .2 (job at) (over at) loads (factor at _) (hn-are at) (ho-are at) in
     record {
       normal = record { placed = by-question _ (g .0) (l .0); near = by-question _ (most .0) (lowest .0) };
       overload = record { placed = by-question _ (g .1) (l .1); near = by-question _ (most .1) (lowest .1) };

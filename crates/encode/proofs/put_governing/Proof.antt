@@ -8,7 +8,7 @@ use Rattle.encode.proofs.put_governing.Tie as tie
 returns : tie.Need-returns
 returns c =
     let p5 = c .before .before in
-    let p4 = p5 .before .before .before .before in
+    let p4 = p5 .before .before .before .before .before in
     let p3 = p4 .before .before .before .before .before in
     let p2 = p3 .before .before .before .before .before in
     let p1 = p2 .before .before .before .before in
@@ -21,5 +21,5 @@ returns c =
 pub put-governing-spec : {M : Type 1} → statement M
 put-governing-spec =
     tie.close
-    (tie.spec (λ c κs. search needs) (λ c κs. search needs) (λ c. search needs) (λ c κs. search needs) (λ c κs. search needs) (λ c κs. search needs) (λ c κs. search needs) (λ c. search needs)
+    (tie.spec (λ c κs. search needs) (λ c κs. search needs) (λ c. search needs) (λ c κs. search needs) (λ c κs. search needs) (λ c κs. search needs) (λ c. search needs) (λ c κs. search needs) (λ c. search needs)
     returns)
