@@ -1,5 +1,5 @@
-//! 01 "Dynamic factor, rounding, rows": the account, as plain numbers, so that
-//! an account of any origin can be held beside it.
+//! 01 "Dynamic factor, rounding, rows" and 02 "Farm bridges": the account, as
+//! plain numbers, so that an account of any origin can be held beside it.
 
 use crate::lanes::MOST_LANES;
 use crate::loads::{Direction, Element, Live, Question, Side};
@@ -74,6 +74,8 @@ pub struct Governing {
     pub omitted: u32,
     /// 1 where the traffic is left out.
     pub traffic_left_out: u32,
+    /// The factor k of DL in thousandths, where the row has it; else 0.
+    pub k: u32,
 }
 
 impl Account {

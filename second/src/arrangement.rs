@@ -1,7 +1,8 @@
-//! 01 "Arrangements, for demand 3": arrangements in k-ths, judged and
-//! evaluated in exact fractions. Nothing here asks for the best of anything.
+//! 01 "Arrangements, for demand 3" and 02 "Farm bridges": arrangements in k-ths,
+//! judged and evaluated in exact fractions. Nothing here asks for the best of anything.
 //! With the code that does, it shares only the lane count, the loads and
-//! factors of loads.rs and the patch byte that a direction loads.
+//! factors of loads.rs, what edition.rs says of an edition and the patch byte
+//! that a direction loads.
 
 use crate::account::{entry_of, side_of, Account, Traffic, UNLOADED};
 use crate::fraction::Fraction;
@@ -51,7 +52,7 @@ impl Arrangement {
         lanes.filter_map(|(lane, loaded)| loaded.as_ref().map(|loaded| (lane, loaded)))
     }
 
-    /// Whether the arrangement keeps 01's rules for this live kind.
+    /// Whether the arrangement keeps the job's rules for this live kind.
     pub fn lawful(&self, job: &Job, live: Live) -> Result<(), String> {
         if self.k < 1 {
             return Err(format!("k is {}", self.k));
@@ -80,13 +81,19 @@ impl Arrangement {
         let elements = self.loaded_lanes().map(|(_, loaded)| loaded.element);
         let overload_elements = elements.filter(|&element| element == Element::Ho).count();
         match (live, overload_elements) {
+            (Live::Overload, _) if !job.edition.has_overload() => {
+                let empty = self.loaded_lanes().next().is_none();
+                empty
+                    .then_some(())
+                    .ok_or("overload without HO, but a lane is loaded".into())
+            }
             (Live::Normal, 0) | (Live::Overload, 1) => Ok(()),
             (Live::Normal, _) => Err("an HO element in normal".into()),
             (Live::Overload, count) => Err(format!("{count} HO elements in overload")),
         }
     }
 
-    /// 3X/800000 in N·U, before it is rounded.
+    /// 3X/800000, or the edition's share of it, in N·U, before it is rounded.
     pub fn effect(&self, job: &Job) -> Fraction {
         let mut hn_set = 0_u32;
         let mut hn_sum = Fraction::ZERO;
@@ -106,7 +113,8 @@ impl Arrangement {
             + ho_sum * Fraction::whole(OVERLOAD_ELEMENT_TWENTIETHS.into());
         let dynamic = dynamic_factor(job.dynamic_kind, job.dynamic_value);
         let x = in_twentieths * Fraction::whole(dynamic.into());
-        x * Fraction::new(X_TIMES, X_OVER)
+        let (share, whole) = job.edition.share_of_x();
+        x * Fraction::new(X_TIMES, X_OVER) * Fraction::new(share, whole)
     }
 }
 

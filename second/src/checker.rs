@@ -1,7 +1,7 @@
 //! Judges an answer of any origin: every refusal, value, governing row and
 //! patch byte by equality with the definitions; every placement and omission
 //! by the rules it must keep and the value it must give, since 01 leaves
-//! equally good ones free.
+//! equally good ones free. So is the k that 02 "Farm bridges" has shown.
 
 use crate::account::{side_of, Account, Answer, Governing, State};
 use crate::arrangement::{loaded_pieces, reported_placement, LoadedLane};
@@ -174,25 +174,30 @@ fn check_state(job: &Job, account: &Account, expected: &Account, state: i64) -> 
     Ok(())
 }
 
-/// The row with what it leaves out, and the traffic as reported, gives the
-/// state's value.
+/// The row with the k shown, what it leaves out and the traffic as reported
+/// gives the state's value.
 fn check_omissions(
     job: &Job,
     account: &Account,
     governing: &Governing,
     question: Question,
 ) -> Result<(), String> {
-    let row = job.rows[governing.row as usize - 1];
+    let combinations = job.combinations();
+    let row = &combinations[governing.row as usize - 1];
+    let mut variants = row.variants.iter();
+    let Some(variant) = variants.find(|variant| variant.k == governing.k) else {
+        return Err(format!("it has no k of {}", governing.k));
+    };
     let mut not_on_chain = governing.omitted;
     let mut value = 0_i128;
-    for record in job.chain(&row) {
-        let effect = job.effects[record.effect - 1];
-        let bit = 1_u32 << (record.effect - 1);
+    for part in &variant.parts {
+        let effect = job.effects[part.effect - 1];
+        let bit = 1_u32 << (part.effect - 1);
         not_on_chain &= !bit;
         if governing.omitted & bit == 0 {
-            value += i128::from(record.factor) * 1000 * i128::from(effect.value);
+            value += i128::from(part.factor) * 1000 * i128::from(effect.value);
         } else if effect.mark != MAY_BE_LEFT_OUT {
-            return Err(format!("effect {} may not be left out", record.effect));
+            return Err(format!("effect {} may not be left out", part.effect));
         }
     }
     if not_on_chain != 0 {
@@ -200,7 +205,7 @@ fn check_omissions(
             "effects {not_on_chain:#b} are left out but not on its chain"
         ));
     }
-    match (governing.traffic_left_out, Live::of_row(row.live_kind)) {
+    match (governing.traffic_left_out, row.live) {
         (0, None) | (1, Some(_)) => {}
         (0, Some(live)) => {
             let traffic = account.traffic(live, question).value;

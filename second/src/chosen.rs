@@ -1,7 +1,11 @@
 //! Cases chosen by hand for what the generated ones do not reach. To add one,
 //! write its builder, with the reason above it, and put it at the end of
 //! BUILDERS; or, where words of Job A changed will do, put them into PAST_LIMITS.
+//! Those of edition 4 are in chosen/farm.rs.
 
+mod farm;
+
+use crate::edition::Edition;
 use crate::generator::Case;
 use crate::job::{Effect, Job, Piece, Record, Row, MAY_BE_LEFT_OUT};
 use crate::job_a::job_a;
@@ -92,10 +96,18 @@ pub const PAST_LIMITS: [&[Change]; 51] = [
     &[(RECORD + 2, i32::MAX)],
 ];
 
-/// The chosen cases, in the order in which they are stored.
-pub fn cases() -> impl Iterator<Item = Case> {
-    let built = BUILDERS.into_iter().map(|build| build());
-    built.chain(PAST_LIMITS.into_iter().map(changed_job_a))
+/// An edition's chosen cases, in the order in which they are stored.
+pub fn cases(edition: Edition) -> impl Iterator<Item = Case> {
+    let cases: Vec<Case> = match edition {
+        Edition::One => {
+            let built = BUILDERS.into_iter().map(|build| build());
+            built
+                .chain(PAST_LIMITS.into_iter().map(changed_job_a))
+                .collect()
+        }
+        Edition::Four => farm::cases(),
+    };
+    cases.into_iter()
 }
 
 /// Job A with words changed.

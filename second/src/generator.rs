@@ -3,10 +3,23 @@
 //! which a seed gives the same case always, whatever other editions bring. The
 //! trains have one too.
 
+mod damage;
 mod draws;
-pub mod edition_1;
+mod edition_1;
+mod edition_4;
+mod header;
 mod line;
+mod plain;
 pub mod train;
+mod transverse;
+mod word_faults;
+
+pub use crate::edition::Edition;
+pub use damage::{damaged, faults_of};
+
+use crate::job::Job;
+use crate::rng::Rng;
+use draws::sufficient_patch;
 
 /// A job's bytes and a patch buffer, with its contents before the call.
 #[derive(Debug, Clone, PartialEq, Eq)]
@@ -15,33 +28,28 @@ pub struct Case {
     pub patch: Vec<u8>,
 }
 
-/// An edition of the job that has a stream of cases.
-#[derive(Debug, Clone, Copy, PartialEq, Eq)]
-pub enum Edition {
-    One,
-}
-
-impl Edition {
-    pub const ALL: [Edition; 1] = [Edition::One];
-
-    /// The edition as a job's word 0 has it.
-    pub fn number(self) -> u64 {
-        match self {
-            Edition::One => 1,
-        }
-    }
-
-    /// The edition of a number; none where it has no stream.
-    pub fn of_number(number: u64) -> Option<Edition> {
-        Edition::ALL
-            .into_iter()
-            .find(|edition| edition.number() == number)
-    }
-}
-
-/// The case of a seed in an edition's stream.
+/// The case of a seed in an edition's stream: about two in three sound, one in
+/// four damaged, the rest plain bytes.
 pub fn case(edition: Edition, seed: u64) -> Case {
+    let mut rng = Rng::new(seed);
+    match rng.below(20) {
+        0..=12 => {
+            let job = sound_job(&mut rng, edition);
+            let patch = sufficient_patch(&mut rng, job.pieces.len());
+            Case {
+                job: job.bytes(),
+                patch,
+            }
+        }
+        13..=17 => damage::damaged_case(&mut rng, edition),
+        _ => plain::plain_bytes(&mut rng, edition),
+    }
+}
+
+/// A job that no refusal is due for, given a long enough patch buffer.
+pub fn sound_job(rng: &mut Rng, edition: Edition) -> Job {
     match edition {
-        Edition::One => edition_1::case(seed),
+        Edition::One => edition_1::sound_job(rng),
+        Edition::Four => edition_4::sound_job(rng),
     }
 }

@@ -1,5 +1,7 @@
-//! 01 "The job's words": a job decoded into its fields, and encoded again.
+//! 01 "The job's words" and 02 "Farm bridges": a job decoded into its fields,
+//! and encoded again.
 
+use crate::edition::Edition;
 use crate::line;
 use crate::sections::{self, Sections};
 use crate::words;
@@ -56,6 +58,7 @@ pub struct Record {
 /// A job whose words are within their limits.
 #[derive(Debug, Clone, PartialEq, Eq)]
 pub struct Job {
+    pub edition: Edition,
     /// h, in decimetres.
     pub piece_length: i64,
     /// g, in cm.
@@ -64,10 +67,14 @@ pub struct Job {
     pub width: i64,
     pub dynamic_kind: i64,
     pub dynamic_value: i64,
+    /// The header's words past word 9, which edition 1 has none of: a farm job's
+    /// barriers.
+    pub further_header: Vec<i64>,
     pub pieces: Vec<Piece>,
     /// Transverse ordinates in thousandths, the first at the left kerb.
     pub transverse: Vec<i64>,
     pub effects: Vec<Effect>,
+    /// Empty, as the records are, where the edition has its rows built in.
     pub rows: Vec<Row>,
     pub records: Vec<Record>,
 }
@@ -75,20 +82,21 @@ pub struct Job {
 impl Job {
     /// Decodes words that are free of refusals 1 to 6.
     pub fn decode(words: &[i32]) -> Job {
+        let edition = Edition::of_words(words).expect("the edition is admitted");
         let sections = Sections::called_for_by(words);
         let word = |place: usize| i64::from(words[place]);
         let number = |word: i32| i64::from(word);
+        let numbers = |words: &[i32]| words.iter().map(|&word| number(word)).collect();
         Job {
+            edition,
             piece_length: word(sections::PIECE_LENGTH),
             spacing: word(sections::SPACING),
             width: word(sections::WIDTH),
             dynamic_kind: word(sections::DYNAMIC_KIND),
             dynamic_value: word(sections::DYNAMIC_VALUE),
+            further_header: numbers(&words[sections::RECORDS + 1..edition.header_words()]),
             pieces: line::pieces_of(&words[sections.line]),
-            transverse: words[sections.transverse]
-                .iter()
-                .map(|&word| number(word))
-                .collect(),
+            transverse: numbers(&words[sections.transverse]),
             effects: words[sections.effects]
                 .chunks_exact(sections::WORDS_PER_EFFECT)
                 .map(|effect| Effect {
@@ -119,7 +127,7 @@ impl Job {
     /// The job's words; the counts in the header are those of the fields.
     pub fn words(&self) -> Vec<i32> {
         let mut words: Vec<i64> = vec![
-            1,
+            self.edition.number().into(),
             self.piece_length,
             self.pieces.len() as i64,
             self.spacing,
@@ -130,6 +138,7 @@ impl Job {
             self.rows.len() as i64,
             self.records.len() as i64,
         ];
+        words.extend(&self.further_header);
         words.extend(line::ordinates_of(&self.pieces));
         words.extend(&self.transverse);
         for effect in &self.effects {

@@ -1,5 +1,6 @@
 //! 01 "The host and the program": Job A.
 
+use crate::edition::Edition;
 use crate::job::{
     Effect, Job, Piece, Record, Row, ALWAYS_PRESENT, LIVE_NORMAL, LIVE_OVERLOAD, SERVICE, ULTIMATE,
 };
@@ -15,11 +16,13 @@ pub fn job_a() -> Job {
         right: piece.left,
     });
     Job {
+        edition: Edition::One,
         piece_length: 10,
         spacing: 40,
         width: 720,
         dynamic_kind: 1,
         dynamic_value: 1300,
+        further_header: vec![],
         pieces: rising.chain(falling).collect(),
         transverse: (0..=18).map(|number| 900 - 50 * number).collect(),
         effects: vec![Effect {

@@ -7,7 +7,7 @@ use second::job::Job;
 use second::lanes::lane_count;
 use second::train::page::{page, truck_line};
 use second::train::{self, Axle, TrainCase, REPORT_BYTES};
-use second::{job_a, line, report, sampler, solve, store, words};
+use second::{farm_job, job_a, line, report, sampler, solve, store, words};
 use std::fs;
 use std::io::{self, Read, Write};
 use std::path::Path;
@@ -18,6 +18,8 @@ const USAGE: &str = "usage:
   second account < JOB             print the whole account, or the refusal
   second beat SEED TRIES < JOB     try to beat the job's account by random draws
   second job-a                     write Job A's bytes to standard output
+  second farm-job                  write the example farm job's bytes to standard
+                                   output
   second train H MODE LOAD@AT.. < LINE
                                    print the rating of a train on a line's
                                    section, or the refusal
@@ -26,7 +28,7 @@ const USAGE: &str = "usage:
   second generate EDITION SEED COUNT DIR
                                    write COUNT cases of EDITION's stream from
                                    SEED on into DIR, as SEED.job and SEED.patch;
-                                   EDITION is 1
+                                   EDITION is 1 or 4
   second store DIR                 write the cases to store into DIR/jobs, and
                                    what is due for each into DIR/expected
 ";
@@ -76,12 +78,15 @@ fn run(arguments: &[&str]) -> Result<(), Failure> {
             beat(number(seed)?, tries)
         }
         ["job-a"] => write_out(&job_a::job_a().bytes()),
+        ["farm-job"] => write_out(&farm_job::farm_job().bytes()),
         ["train", h, mode, axles @ ..] => train(number(h)?, number(mode)?, axles),
         ["truck-line"] => write_out(&line::section_bytes(&truck_line())),
-        ["generate", edition, seed, count, directory] => {
-            let edition = Edition::of_number(number(edition)?).ok_or(Failure::Usage)?;
-            generate(edition, number(seed)?, number(count)?, Path::new(directory))
-        }
+        ["generate", edition, seed, count, directory] => generate(
+            edition_of(edition)?,
+            number(seed)?,
+            number(count)?,
+            Path::new(directory),
+        ),
         ["store", directory] => store(Path::new(directory)),
         _ => Err(Failure::Usage),
     }
@@ -89,6 +94,11 @@ fn run(arguments: &[&str]) -> Result<(), Failure> {
 
 fn number(argument: &str) -> Result<u64, Failure> {
     argument.parse().map_err(|_| Failure::Usage)
+}
+
+fn edition_of(argument: &str) -> Result<Edition, Failure> {
+    let number = argument.parse().ok();
+    number.and_then(Edition::of_number).ok_or(Failure::Usage)
 }
 
 fn account() -> Result<(), Failure> {

@@ -1,12 +1,14 @@
-//! 01 "What the yard hears back": the nine refusals, tested in rising number,
-//! each at its lowest place.
+//! 01 "What the yard hears back" and 02 "Farm bridges": refusals 1 to 9, tested
+//! in rising number, and 11, tested straight after 2; each at its lowest place.
 
+use crate::edition::Edition;
+use crate::farm;
+use crate::job::{ALWAYS_PRESENT, MAY_BE_LEFT_OUT};
 use crate::sections::{
-    self, Sections, HEADER_WORDS, WORDS_PER_EFFECT, WORDS_PER_PIECE, WORDS_PER_RECORD,
-    WORDS_PER_ROW,
+    self, Sections, WORDS_PER_EFFECT, WORDS_PER_PIECE, WORDS_PER_RECORD, WORDS_PER_ROW,
 };
 use crate::words::{self, WORD_BYTES};
-use std::ops::Range;
+use std::ops::{Range, RangeInclusive};
 
 /// The most an ordinate of either line is away from 0.
 pub const MOST_IN_LINE: i32 = 5000;
@@ -19,7 +21,7 @@ pub struct Refusal {
     pub place: u64,
 }
 
-/// The refusal 01 names for these bytes and a patch buffer of this length.
+/// The refusal that is due for these bytes and a patch buffer of this length.
 pub fn refusal(job: &[u8], patch_bytes: usize) -> Option<Refusal> {
     test_all(job, patch_bytes).err()
 }
@@ -27,14 +29,15 @@ pub fn refusal(job: &[u8], patch_bytes: usize) -> Option<Refusal> {
 fn test_all(job: &[u8], patch_bytes: usize) -> Result<(), Refusal> {
     let words = words::words_of(job);
     let words = words.as_slice();
-    test(1, not_a_job(job, words))?;
-    test(2, header_word_outside(words))?;
+    let edition = edition_of(job, words)?;
+    test(2, header_word_outside(words, edition))?;
+    test(11, width_outside_its_band(words, edition))?;
     let sections = Sections::called_for_by(words);
     test(3, wrong_word_count(words, &sections))?;
     test(4, ordinate_of_a_job_outside(words, &sections))?;
     let crossing = piece_of_two_signs(&words[sections.line.clone()]);
     test(5, crossing.map(|within| sections.line.start + within))?;
-    test(6, factor_word_outside(words, &sections))?;
+    test(6, factor_word_outside(words, &sections, edition))?;
     test(7, chain_with_return(words, &sections))?;
     test(8, chain_naming_twice(words, &sections))?;
     test(9, short_patch_buffer(words, patch_bytes))
@@ -51,22 +54,26 @@ pub(crate) fn test(number: u64, place: Option<usize>) -> Result<(), Refusal> {
     }
 }
 
-/// 1: under 10 words, a byte count not divisible by 4, or word 0 not 1.
-fn not_a_job(job: &[u8], words: &[i32]) -> Option<usize> {
-    let is_job = job.len() >= HEADER_WORDS * WORD_BYTES
-        && job.len().is_multiple_of(WORD_BYTES)
-        && words[sections::EDITION] == 1;
-    (!is_job).then_some(0)
+/// The edition of the job; else 1: word 0 names none, fewer words than its
+/// header has, or a byte count not divisible by 4.
+fn edition_of(job: &[u8], words: &[i32]) -> Result<Edition, Refusal> {
+    let edition = Edition::of_words(words).filter(|edition| {
+        words.len() >= edition.header_words() && job.len().is_multiple_of(WORD_BYTES)
+    });
+    edition.ok_or(Refusal {
+        number: 1,
+        place: 0,
+    })
 }
 
-/// 2: a word among 1 to 9 outside its limits.
-fn header_word_outside(words: &[i32]) -> Option<usize> {
-    (1..HEADER_WORDS).find(|&place| !header_word_lawful(words, place))
+/// 2: a word of the header, past word 0, outside its limits.
+fn header_word_outside(words: &[i32], edition: Edition) -> Option<usize> {
+    (1..edition.header_words()).find(|&place| !header_word_lawful(words, place, edition))
 }
 
 /// The limits of a header word; those that rest on an earlier word take it as
 /// lawful, since an unlawful one is the lower place.
-fn header_word_lawful(words: &[i32], place: usize) -> bool {
+fn header_word_lawful(words: &[i32], place: usize, edition: Edition) -> bool {
     let word = words[place];
     match place {
         sections::PIECE_LENGTH => piece_length_lawful(word.into()),
@@ -79,11 +86,37 @@ fn header_word_lawful(words: &[i32], place: usize) -> bool {
             2 => word == 0,
             _ => (0..=5000).contains(&word),
         },
-        sections::EFFECTS => (0..=16).contains(&word),
-        sections::ROWS => (1..=32).contains(&word),
-        sections::RECORDS => (0..=512).contains(&word),
-        _ => true,
+        _ => later_header_word_limits(place, edition).contains(&word),
     }
+}
+
+/// The limits of the header's words from the number of effects on, which differ
+/// by edition.
+pub fn later_header_word_limits(place: usize, edition: Edition) -> RangeInclusive<i32> {
+    match (edition, place) {
+        (Edition::One, sections::EFFECTS) => 0..=16,
+        (Edition::One, sections::ROWS) => 1..=32,
+        (Edition::One, _) => 0..=512,
+        (Edition::Four, sections::EFFECTS) => 11..=11,
+        (Edition::Four, sections::ROWS | sections::RECORDS) => 0..=0,
+        (Edition::Four, _) => 1..=3,
+    }
+}
+
+/// A farm bridge's clear widths in cm, by its barriers: 1 none, 2 pedestrian, 3
+/// traffic.
+pub fn width_band(barriers: i32) -> RangeInclusive<i32> {
+    match barriers {
+        1 | 2 => 300..=370,
+        _ => 370..=430,
+    }
+}
+
+/// 11: a farm bridge's width outside its barriers' band.
+fn width_outside_its_band(words: &[i32], edition: Edition) -> Option<usize> {
+    let outside = edition == Edition::Four
+        && !width_band(words[sections::BARRIERS]).contains(&words[sections::WIDTH]);
+    outside.then_some(sections::WIDTH)
 }
 
 /// The limits of h.
@@ -130,19 +163,20 @@ pub fn piece_of_two_signs(line: &[i32]) -> Option<usize> {
 }
 
 /// 6: an effect, row or record word outside its limits.
-fn factor_word_outside(words: &[i32], sections: &Sections) -> Option<usize> {
+fn factor_word_outside(words: &[i32], sections: &Sections, edition: Edition) -> Option<usize> {
     (sections.effects.start..sections.records.end)
-        .find(|&place| !factor_word_lawful(words, sections, place))
+        .find(|&place| !factor_word_lawful(words, sections, edition, place))
 }
 
-fn factor_word_lawful(words: &[i32], sections: &Sections, place: usize) -> bool {
+fn factor_word_lawful(words: &[i32], sections: &Sections, edition: Edition, place: usize) -> bool {
     let word = words[place];
     let effects = words[sections::EFFECTS];
     let records = words[sections::RECORDS];
     if sections.effects.contains(&place) {
-        match (place - sections.effects.start) % WORDS_PER_EFFECT {
+        let within = place - sections.effects.start;
+        match within % WORDS_PER_EFFECT {
             0 => (-1_000_000_000..=1_000_000_000).contains(&word),
-            _ => word == 1 || word == 2,
+            _ => marks(edition, within / WORDS_PER_EFFECT).contains(&word.into()),
         }
     } else if sections.rows.contains(&place) {
         match (place - sections.rows.start) % WORDS_PER_ROW {
@@ -158,6 +192,14 @@ fn factor_word_lawful(words: &[i32], sections: &Sections, place: usize) -> bool 
             1 => (0..=3000).contains(&word),
             _ => (0..=records).contains(&word),
         }
+    }
+}
+
+/// The marks that an effect, counted from 0, may carry.
+fn marks(edition: Edition, effect: usize) -> RangeInclusive<i64> {
+    match edition {
+        Edition::One => ALWAYS_PRESENT..=MAY_BE_LEFT_OUT,
+        Edition::Four => farm::mark(effect)..=farm::mark(effect),
     }
 }
 

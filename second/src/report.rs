@@ -88,8 +88,12 @@ fn governing_lines(name: &str, state: &State) -> String {
     }
     let line = |question: &str, governing: &Governing| {
         let traffic = ["counts", "left out"][governing.traffic_left_out as usize];
+        let k = match governing.k {
+            0 => String::new(),
+            k => format!(", k {k}"),
+        };
         format!(
-            "{name} {question} {} row {}, left out {}, traffic {traffic}\n",
+            "{name} {question} {} row {}, left out {}, traffic {traffic}{k}\n",
             governing.value, governing.row, governing.omitted
         )
     };

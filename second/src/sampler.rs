@@ -1,5 +1,6 @@
-//! Tries to beat a report with arrangements, rows and omissions drawn at
-//! random (01 "Arrangements, for demand 3"). A right report is never beaten.
+//! Tries to beat a report with arrangements, rows, choices of k and omissions
+//! drawn at random (01 "Arrangements, for demand 3", 02 "Farm bridges"). A right
+//! report is never beaten.
 //!
 //! The draws lean towards what goes far: loaded k-ths of one sign, axles at and
 //! near good stands, centres at and near limits and transverse ordinates. All
@@ -9,8 +10,9 @@ use crate::account::Account;
 use crate::arrangement::{
     loaded_pieces, ordinate_at, transverse_ordinate, Arrangement, LoadedLane,
 };
+use crate::combination::{Combination, Variant};
 use crate::fraction::Fraction;
-use crate::job::{Job, Record, Row, MAY_BE_LEFT_OUT, SERVICE, ULTIMATE};
+use crate::job::{Job, MAY_BE_LEFT_OUT, SERVICE, ULTIMATE};
 use crate::lanes::{lane_count, EDGE_DISTANCE};
 use crate::loads::{Direction, Element, Live, Question, Side, AXLE_DISTANCE};
 use crate::rng::Rng;
@@ -40,7 +42,8 @@ pub enum Beating {
     State {
         state: i64,
         question: Question,
-        row: usize,
+        row: u32,
+        k: u32,
         omitted: u32,
         arrangement: Option<Arrangement>,
         value: i128,
@@ -74,7 +77,7 @@ pub struct Sampler<'a> {
     /// the pieces above 0 and on those below.
     raising_effects: [Fraction; 2],
     lowering_effects: [Fraction; 2],
-    chains: Vec<(usize, Row, Vec<Record>)>,
+    combinations: Vec<Combination>,
 }
 
 impl<'a> Sampler<'a> {
@@ -113,16 +116,13 @@ impl<'a> Sampler<'a> {
             lowered,
             high_stands,
             low_stands,
-            chains: (1..)
-                .zip(&job.rows)
-                .map(|(number, row)| (number, *row, job.chain(row)))
-                .collect(),
+            combinations: job.combinations(),
         }
     }
 
     fn wrong_presence(&self, account: &Account) -> Option<Beating> {
         [SERVICE, ULTIMATE].into_iter().find_map(|state| {
-            let has_rows = self.job.rows.iter().any(|row| row.state == state);
+            let has_rows = self.combinations.iter().any(|row| row.state == state);
             let present = account.state(state).present != 0;
             (has_rows != present).then_some(Beating::Presence { state })
         })
@@ -146,14 +146,14 @@ impl<'a> Sampler<'a> {
                 reported,
             });
         }
-        self.chains.iter().find_map(|(number, row, chain)| {
-            let own_live = Live::of_row(row.live_kind);
-            let with_traffic = own_live == Some(live) && !rng.one_in(8);
+        self.combinations.iter().find_map(|row| {
+            let with_traffic = row.live == Some(live) && !rng.one_in(8);
             let mut value = 0;
             if with_traffic {
                 value += i128::from(row.live_factor) * effect;
             }
-            let (kept, omitted) = self.draw_omissions(chain, question, rng);
+            let variant = &row.variants[rng.index(row.variants.len())];
+            let (kept, omitted) = self.draw_omissions(variant, question, rng);
             value += kept;
             let reported = account.state(row.state).governing(question).value;
             question
@@ -161,7 +161,8 @@ impl<'a> Sampler<'a> {
                 .then(|| Beating::State {
                     state: row.state,
                     question,
-                    row: *number,
+                    row: row.row,
+                    k: variant.k,
                     omitted,
                     arrangement: with_traffic.then(|| arrangement.clone()),
                     value,
@@ -170,24 +171,24 @@ impl<'a> Sampler<'a> {
         })
     }
 
-    /// What a chain comes to without some of the effects that may be left out:
+    /// What a row's effects come to without some of those that may be left out:
     /// those that hold the value back, or any.
-    fn draw_omissions(&self, chain: &[Record], question: Question, rng: &mut Rng) -> (i128, u32) {
+    fn draw_omissions(&self, row: &Variant, question: Question, rng: &mut Rng) -> (i128, u32) {
         let aimed = rng.one_in(2);
         let mut kept = 0;
         let mut omitted = 0;
-        for record in chain {
-            let effect = self.job.effects[record.effect - 1];
-            let part = i128::from(record.factor) * 1000 * i128::from(effect.value);
+        for part in &row.parts {
+            let effect = self.job.effects[part.effect - 1];
+            let counts = i128::from(part.factor) * 1000 * i128::from(effect.value);
             let leave_out = if aimed {
-                question.beats(0, part)
+                question.beats(0, counts)
             } else {
                 rng.one_in(2)
             };
             if effect.mark == MAY_BE_LEFT_OUT && leave_out {
-                omitted |= 1 << (record.effect - 1);
+                omitted |= 1 << (part.effect - 1);
             } else {
-                kept += part;
+                kept += counts;
             }
         }
         (kept, omitted)
@@ -196,6 +197,9 @@ impl<'a> Sampler<'a> {
     /// A lawful arrangement.
     pub fn draw(&self, live: Live, question: Question, rng: &mut Rng) -> Arrangement {
         let k = i128::from(self.draw_k(rng));
+        if live == Live::Overload && !self.job.edition.has_overload() {
+            return Arrangement::empty(k);
+        }
         let aimed = rng.one_in(2);
         let disturbed = aimed && rng.one_in(2);
         let lanes: Vec<usize> = (0..self.lanes)

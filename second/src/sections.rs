@@ -1,9 +1,8 @@
-//! 01 "The job's words": where each section of a job lies, in word places.
+//! 01 "The job's words" and 02 "Farm bridges": where each section of a job
+//! lies, in word places.
 
+use crate::edition::Edition;
 use std::ops::Range;
-
-/// Words 0 to 9.
-pub const HEADER_WORDS: usize = 10;
 
 /// Places of the header's words.
 pub const EDITION: usize = 0;
@@ -16,6 +15,8 @@ pub const DYNAMIC_VALUE: usize = 6;
 pub const EFFECTS: usize = 7;
 pub const ROWS: usize = 8;
 pub const RECORDS: usize = 9;
+/// In a farm job.
+pub const BARRIERS: usize = 10;
 
 pub const WORDS_PER_PIECE: usize = 2;
 pub const WORDS_PER_EFFECT: usize = 2;
@@ -33,10 +34,12 @@ pub struct Sections {
 }
 
 impl Sections {
-    /// The sections a lawful header calls for.
+    /// The sections that a lawful header of an admitted edition calls for.
     pub fn called_for_by(header: &[i32]) -> Sections {
         let count = |place: usize| header[place] as usize;
-        let line = HEADER_WORDS..HEADER_WORDS + WORDS_PER_PIECE * count(PIECES);
+        let edition = Edition::of_words(header).expect("the edition is admitted");
+        let start = edition.header_words();
+        let line = start..start + WORDS_PER_PIECE * count(PIECES);
         let transverse = following(&line, count(WIDTH).div_ceil(count(SPACING)) + 1);
         let effects = following(&transverse, WORDS_PER_EFFECT * count(EFFECTS));
         let rows = following(&effects, WORDS_PER_ROW * count(ROWS));

@@ -24,13 +24,20 @@ pub fn stored() -> Stored {
     stored
 }
 
-/// The cases to store: the generated ones, then those chosen by hand.
+/// The cases to store: the generated ones, then those chosen by hand, edition by
+/// edition.
 pub fn cases() -> impl Iterator<Item = Case> {
-    generated_cases().chain(chosen::cases())
+    let of_edition = |edition| generated_cases(edition).chain(chosen::cases(edition));
+    Edition::ALL.into_iter().flat_map(of_edition)
 }
 
-/// Edition 1's cases that are stored.
-const GENERATED_CASES: usize = 1700;
+/// How many of an edition's cases are stored.
+fn cases_of(edition: Edition) -> usize {
+    match edition {
+        Edition::One => 1700,
+        Edition::Four => 400,
+    }
+}
 
 /// The most bytes of a case that is stored whatever its seed.
 const SHORT_CASE_BYTES: usize = 400;
@@ -38,15 +45,15 @@ const SHORT_CASE_BYTES: usize = 400;
 /// Of the seeds of longer cases, one in so many is stored.
 const LONG_CASE_SEEDS: u64 = 32;
 
-/// Edition 1's first cases from seed 0 on: every short one and few of the
+/// An edition's first cases from seed 0 on: every short one and few of the
 /// others, so that many fit in a small file.
-pub fn generated_cases() -> impl Iterator<Item = Case> {
-    let to_store = |seed: u64| {
-        let case = generator::case(Edition::One, seed);
+pub fn generated_cases(edition: Edition) -> impl Iterator<Item = Case> {
+    let to_store = move |seed: u64| {
+        let case = generator::case(edition, seed);
         let short = case.job.len() + case.patch.len() <= SHORT_CASE_BYTES;
         (short || seed.is_multiple_of(LONG_CASE_SEEDS)).then_some(case)
     };
-    (0..).filter_map(to_store).take(GENERATED_CASES)
+    (0..).filter_map(to_store).take(cases_of(edition))
 }
 
 /// The job's length and the patch buffer's, in two bytes each, low byte first;

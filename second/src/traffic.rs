@@ -1,5 +1,5 @@
-//! 01 "Lanes" and "Dynamic factor, rounding, rows": the four traffic values,
-//! by trying every centre, direction, lane set and HO lane.
+//! 01 "Lanes" and "Dynamic factor, rounding, rows", 02 "Farm bridges": the four
+//! traffic values, by trying every centre, direction, lane set and HO lane.
 
 use crate::account::{entry_number, Lane, Traffic};
 use crate::job::Job;
@@ -87,13 +87,17 @@ struct Loading {
     sum: i128,
 }
 
-/// The traffic value of a live kind and question, with its placement.
+/// The traffic value of a live kind and question, with its placement. Overload
+/// without HO is 0, every lane unloaded.
 pub fn traffic_value(
     job: &Job,
     longitudinal: &LongitudinalEffects,
     live: Live,
     question: Question,
 ) -> Traffic {
+    if live == Live::Overload && !job.edition.has_overload() {
+        return Traffic::default();
+    }
     let lanes = 0..lane_count(job.width);
     let furthest = |element| -> Vec<LaneElement> {
         lanes
@@ -178,10 +182,13 @@ pub fn lanes_of(set: u32) -> impl Iterator<Item = usize> {
     (0..u32::BITS as usize).filter(move |lane| set & (1 << lane) != 0)
 }
 
-/// 3X/800000, rounded for its question. The sum still carries n times g.
+/// 3X/800000, or the edition's share of it, rounded for its question. The sum
+/// still carries n times g.
 fn effect_in_whole_units(job: &Job, sum: i128, question: Question) -> i64 {
     let dynamic = i128::from(dynamic_factor(job.dynamic_kind, job.dynamic_value));
     let n_times_g = lane_count(job.width) as i128 * i128::from(job.spacing);
-    let rounded = question.round(X_TIMES * sum * dynamic, X_OVER * n_times_g);
+    let (share, whole) = job.edition.share_of_x();
+    let dividend = X_TIMES * sum * dynamic * share;
+    let rounded = question.round(dividend, X_OVER * n_times_g * whole);
     i64::try_from(rounded).expect("a traffic value fits 64 bits")
 }

@@ -1,10 +1,11 @@
-//! 01 "Arrangements, for demand 3": hand-worked arrangements, and the rules.
+//! 01 "Arrangements, for demand 3" and 02 "Farm bridges": hand-worked
+//! arrangements, and the rules.
 
 #![allow(clippy::single_range_in_vec_init)] // One loaded range is meant.
 
 mod common;
 
-use common::{level_job, two_lane_job};
+use common::{level_job, small_farm_job, two_lane_job};
 use second::arrangement::{Arrangement, LoadedLane};
 use second::fraction::Fraction;
 use second::job::Job;
@@ -206,4 +207,33 @@ fn fractions_are_exact_and_round_by_question() {
         assert_eq!(fraction.round(Question::Greatest), up);
         assert_eq!(fraction.round(Question::Least), down);
     }
+}
+
+/// 02 "Farm bridges": 17/20 of what edition 1 has. An axle at the start of the
+/// line of both ordinates 8, over the ordinate 1000: 1600 * 8 * 1000 * 20 * 1000 *
+/// 3 / 800000 = 960000, times 17/20 = 816000.
+#[test]
+fn a_farm_arrangement_counts_17_twentieths() {
+    let job = small_farm_job([0; 11]);
+    let one = arrangement(1, &[(0, lane(Element::Hn, 0, Side::Right, 150))]);
+    assert_eq!(one.lawful(&job, Live::Normal), Ok(()));
+    assert_eq!(one.effect(&job), Fraction::whole(816_000));
+    assert_eq!(Arrangement::empty(3).effect(&job), Fraction::ZERO);
+}
+
+/// The empty arrangement is the one of a farm job's overload; HO is in none.
+#[test]
+fn a_farm_job_has_one_overload_arrangement() {
+    let job = small_farm_job([0; 11]);
+    let with = |element| arrangement(1, &[(0, lane(element, 0, Side::Right, 150))]);
+    assert_eq!(Arrangement::empty(1).lawful(&job, Live::Overload), Ok(()));
+    assert_eq!(Arrangement::empty(7).lawful(&job, Live::Overload), Ok(()));
+    assert_eq!(Arrangement::empty(1).lawful(&job, Live::Normal), Ok(()));
+    assert!(with(Element::Hn).lawful(&job, Live::Overload).is_err());
+    assert!(with(Element::Ho).lawful(&job, Live::Overload).is_err());
+    assert!(with(Element::Ho).lawful(&job, Live::Normal).is_err());
+    // In edition 1 it is the other way about.
+    let job = level_job(300, 50, vec![1000; 7]);
+    assert!(Arrangement::empty(1).lawful(&job, Live::Overload).is_err());
+    assert_eq!(with(Element::Ho).lawful(&job, Live::Overload), Ok(()));
 }

@@ -3,77 +3,19 @@
 
 mod common;
 
+use common::call::{refuses, takes, Call, Change};
 use common::{definition, level_job, pieces, two_lane_job};
 use second::account::{Lane, State};
-use second::checker::check;
 use second::generator::{case, Edition};
-use second::job::Job;
 use second::job_a::job_a;
-use second::{solve, store, Answer};
-
-/// What a kernel gave for a job, with the patch buffer before and after.
-#[derive(Clone)]
-struct Call {
-    job: Vec<u8>,
-    before: Vec<u8>,
-    after: Vec<u8>,
-    answer: Answer,
-}
-
-impl Call {
-    fn new(job: &[u8], before: &[u8]) -> Call {
-        let mut after = before.to_vec();
-        let answer = solve(job, &mut after);
-        Call {
-            job: job.to_vec(),
-            before: before.to_vec(),
-            after,
-            answer,
-        }
-    }
-
-    fn of(job: &Job) -> Call {
-        Call::new(&job.bytes(), &vec![0xC3; job.pieces.len() + 2])
-    }
-
-    fn check(&self) -> Result<(), String> {
-        check(&self.job, &self.before, &self.after, &self.answer)
-    }
-
-    /// The same call with something changed.
-    fn with(&self, change: impl Fn(&mut Call)) -> Call {
-        let mut changed = self.clone();
-        change(&mut changed);
-        changed
-    }
-}
-
-type Change = fn(&mut Call);
-
-#[track_caller]
-fn takes(call: &Call, changes: &[(&str, Change)]) {
-    assert_eq!(call.check(), Ok(()));
-    for (what, change) in changes {
-        assert_eq!(call.with(change).check(), Ok(()), "{what}");
-    }
-}
-
-/// Each change is refused for a reason that has these words in it.
-#[track_caller]
-fn refuses(call: &Call, changes: &[(&str, Change)]) {
-    assert_eq!(call.check(), Ok(()));
-    for (number, (reason, change)) in changes.iter().enumerate() {
-        let fault = call.with(change).check();
-        let fault = fault.expect_err(&format!("change {number}, {reason}"));
-        assert!(fault.contains(reason), "change {number}: {fault}");
-    }
-}
+use second::{store, Answer};
 
 /// What is due by the definitions alone passes, with the solver's placements
 /// and omissions: for generated cases by seed, then for the stored ones.
 #[test]
 fn right_answers_to_generated_and_stored_cases_pass() {
-    let generated = (0..2000).map(|seed| case(Edition::One, seed));
+    let seeds = 0..4000;
+    let generated = seeds.map(|seed| case(Edition::ALL[seed as usize % 2], seed / 2));
     for (number, case) in generated.chain(store::cases()).enumerate() {
         let mut call = Call::new(&case.job, &case.patch);
         (call.answer, call.after) = definition::due(&case.job, &case.patch, &call.answer);
@@ -540,10 +482,10 @@ fn equally_good_omissions_are_free() {
 /// 01 leaves that number free; values and governing rows never are.
 #[test]
 fn no_changed_value_or_row_passes() {
-    for seed in 0..500 {
-        let case = case(Edition::One, seed);
+    for seed in 0..1000 {
+        let case = case(Edition::ALL[seed as usize % 2], seed / 2);
         let call = Call::new(&case.job, &case.patch);
-        let changes: [Change; 10] = [
+        let changes: [Change; 12] = [
             |call| call.answer.account.normal_greatest.value -= 1,
             |call| call.answer.account.normal_least.value += 1,
             |call| call.answer.account.overload_greatest.value -= 1,
@@ -553,6 +495,8 @@ fn no_changed_value_or_row_passes() {
             |call| call.answer.account.service.greatest.row += 1,
             |call| call.answer.account.ultimate.least.row += 1,
             |call| call.answer.account.service.present ^= 1,
+            |call| call.answer.account.service.greatest.k += 1,
+            |call| call.answer.account.ultimate.least.k += 1,
             |call| call.answer.place += 1,
         ];
         for (number, change) in changes.iter().enumerate() {

@@ -1,14 +1,14 @@
 //! The chosen cases reach what they are chosen for.
 
 use second::chosen::{self, PAST_LIMITS};
-use second::sections::HEADER_WORDS;
+use second::edition::Edition;
 use second::solve;
 
 /// Job A's rows follow 10 words, 40 ordinates, 19 transverse ones and, here,
 /// sixteen effects: they start at word 101.
 #[test]
 fn their_lengths_and_answers() {
-    let reached = chosen::cases().map(|mut case| {
+    let reached = chosen::cases(Edition::One).map(|mut case| {
         let answer = solve(&case.job, &mut case.patch);
         (case.job.len(), answer.refusal, answer.place)
     });
@@ -32,7 +32,9 @@ fn dividends_next_to_32_bits() {
         (37, 3 * 1116 * overload),
         (37, 3 * 1117 * overload),
     ];
-    for (number, (mut case, (g, dividend))) in (0..).zip(chosen::cases().skip(4).zip(due)) {
+    for (number, (mut case, (g, dividend))) in
+        (0..).zip(chosen::cases(Edition::One).skip(4).zip(due))
+    {
         let account = solve(&case.job, &mut case.patch).account;
         let value = [&account.normal_greatest, &account.overload_greatest][number / 2].value;
         assert_eq!(value, (dividend + 800_000 * g - 1) / (800_000 * g));
@@ -44,11 +46,18 @@ fn dividends_next_to_32_bits() {
 /// A word past its limit is refused at its place.
 #[test]
 fn past_a_limit_the_word_is_refused() {
-    let before = chosen::cases().count() - PAST_LIMITS.len();
-    for (changes, mut case) in PAST_LIMITS.iter().zip(chosen::cases().skip(before)) {
+    let before = chosen::cases(Edition::One).count() - PAST_LIMITS.len();
+    for (changes, mut case) in PAST_LIMITS
+        .iter()
+        .zip(chosen::cases(Edition::One).skip(before))
+    {
         let (place, word) = changes[changes.len() - 1];
         let answer = solve(&case.job, &mut case.patch);
-        let due = if place < HEADER_WORDS { 2 } else { 6 };
+        let due = if place < Edition::One.header_words() {
+            2
+        } else {
+            6
+        };
         assert_eq!(
             (answer.refusal, answer.place),
             (due, place as u64),
@@ -60,10 +69,13 @@ fn past_a_limit_the_word_is_refused() {
 /// A case stored twice tells nothing new.
 #[test]
 fn none_is_stored_twice() {
-    let generated: Vec<_> = second::store::generated_cases().collect();
-    let chosen: Vec<_> = chosen::cases().collect();
-    for (number, case) in chosen.iter().enumerate() {
-        assert!(!generated.contains(case), "chosen case {number}");
-        assert!(!chosen[..number].contains(case), "chosen case {number}");
+    for edition in Edition::ALL {
+        let generated: Vec<_> = second::store::generated_cases(edition).collect();
+        let chosen: Vec<_> = chosen::cases(edition).collect();
+        for (number, case) in chosen.iter().enumerate() {
+            let name = format!("{edition:?}, chosen case {number}");
+            assert!(!generated.contains(case), "{name}");
+            assert!(!chosen[..number].contains(case), "{name}");
+        }
     }
 }

@@ -3,7 +3,8 @@
 
 mod common;
 
-use common::{definition, level_job, pieces};
+use common::farm_tables::{FIRST_ULTIMATE_ROW, K, LIVE, ROWS};
+use common::{definition, level_job, pieces, small_farm_job};
 use second::arrangement::{Arrangement, LoadedLane};
 use second::job::Job;
 use second::loads::{Element, Live, Question, Side};
@@ -175,5 +176,68 @@ fn two_lanes() {
         }
         normal.is_reported(&job);
         overload.is_reported(&job);
+    }
+}
+
+/// What every row of a farm job comes to with every omission, both k and a
+/// traffic effect of the question, or none.
+fn every_state_value(effects: [i64; 11], traffic: i64) -> [Vec<i64>; 2] {
+    let mut values = [vec![], vec![]];
+    for (number, row) in ROWS.iter().enumerate() {
+        let state = usize::from(number + 1 >= FIRST_ULTIMATE_ROW);
+        let ks: &[i64] = if row[0] == K { &[1300, 800] } else { &[row[0]] };
+        for (k, set) in ks
+            .iter()
+            .flat_map(|k| (0..1_u32 << 9).map(move |set| (k, set)))
+        {
+            // The low eight bits keep the effects that may be left out, the ninth
+            // the traffic.
+            let kept = |at: usize| at < 3 || set >> (at - 3) & 1 == 1;
+            let factor = |at: usize| if at == 0 { *k } else { row[at] };
+            let of_effect = |at: usize| factor(at) * 1000 * effects[at];
+            let sum: i64 = (0..11).filter(|&at| kept(at)).map(of_effect).sum();
+            let live = if kept(LIVE) { row[LIVE] * traffic } else { 0 };
+            values[state].push(sum + live);
+        }
+    }
+    values
+}
+
+/// A farm bridge of W 303, as `one_lane`; its states over every row, k, omission
+/// and arrangement.
+#[test]
+fn a_farm_bridge() {
+    let dead = [700, -700, 0];
+    for (line, dl) in lines().into_iter().zip(dead.into_iter().cycle()) {
+        let effects = [dl, 30, -50, 4, -5, 6, 7, 8, 9, 900, 11];
+        let mut job = small_farm_job(effects);
+        (job.width, job.spacing, job.pieces) = (303, 38, line);
+        job.transverse = (0..9).map(|at| [7, -9, 4][at % 3] * 100 + 3).collect();
+        (job.dynamic_kind, job.dynamic_value) = (1, 1111);
+        for k in [1, 2] {
+            let mut normal = Furthest::new(Live::Normal);
+            let mut overload = Furthest::new(Live::Overload);
+            let mut arrangement = Arrangement::empty(k);
+            normal.take(&job, &arrangement);
+            overload.take(&job, &arrangement);
+            for element in every_element(&job, k, 150 * k..=153 * k, k) {
+                arrangement.lanes[0] = Some(element);
+                normal.take(&job, &arrangement);
+            }
+            normal.is_reported(&job);
+            overload.is_reported(&job);
+            states_are_reported(&job, effects, &normal);
+        }
+    }
+}
+
+/// A row's value grows with its traffic, so the furthest arrangement is enough.
+fn states_are_reported(job: &Job, effects: [i64; 11], normal: &Furthest) {
+    let account = solve(&job.bytes(), &mut vec![0; job.pieces.len()]).account;
+    let greatest = every_state_value(effects, normal.greatest as i64);
+    let least = every_state_value(effects, normal.least as i64);
+    for (number, state) in [account.service, account.ultimate].into_iter().enumerate() {
+        assert_eq!(Some(&state.greatest.value), greatest[number].iter().max());
+        assert_eq!(Some(&state.least.value), least[number].iter().min());
     }
 }

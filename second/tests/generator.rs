@@ -2,8 +2,7 @@
 //! every shape of job and outcome.
 
 use second::account::Account;
-use second::generator::edition_1::damaged;
-use second::generator::{case, Case, Edition};
+use second::generator::{case, damaged, Case, Edition};
 use second::job::Job;
 use second::lanes::lane_count;
 use second::line::{pair_ordinates, patch_byte, pieces_between_axles, stations, Stand};
@@ -448,7 +447,7 @@ fn the_cases_reach_every_refusal_and_shape() {
 #[test]
 fn the_stored_cases_reach_every_refusal_and_shape() {
     let mut reached = BTreeSet::new();
-    for case in second::store::generated_cases() {
+    for case in second::store::generated_cases(Edition::One) {
         let answer = solve(&case.job, &mut case.patch.clone());
         reached.extend(labels(&case, &answer));
     }
@@ -462,7 +461,7 @@ fn the_stored_cases_reach_every_refusal_and_shape() {
 fn a_fault_alone_gives_its_refusal() {
     for fault in 1..=9 {
         let hits = (0..200).filter(|&seed| {
-            let case = damaged(&mut Rng::new(seed), &[fault]);
+            let case = damaged(&mut Rng::new(seed), Edition::One, &[fault]);
             solve(&case.job, &mut case.patch.clone()).refusal == fault
         });
         let least = if fault == 3 { 180 } else { 200 };
@@ -476,7 +475,7 @@ fn two_faults_give_the_lower_refusal() {
     for low in [1, 2, 4, 5, 6, 7, 8] {
         for high in low + 1..=9 {
             for seed in 0..20 {
-                let case = damaged(&mut Rng::new(seed), &[low, high]);
+                let case = damaged(&mut Rng::new(seed), Edition::One, &[low, high]);
                 let answer = solve(&case.job, &mut case.patch.clone());
                 assert_eq!(answer.refusal, low, "{low} and {high}, seed {seed}");
             }

@@ -85,6 +85,7 @@ fn states_with_a_tie_and_effects_left_out() {
         row,
         omitted,
         traffic_left_out: 0,
+        k: 0,
     };
     let service = State {
         present: 1,

@@ -48,12 +48,14 @@ fn every_part_of_an_account_is_told() {
                 row: 32,
                 omitted: 0b1010,
                 traffic_left_out: 0,
+                k: 1300,
             },
             least: Governing {
                 value: -42,
                 row: 1,
                 omitted: 0,
                 traffic_left_out: 1,
+                k: 0,
             },
         },
     };
@@ -74,7 +76,7 @@ overload least -34 N.U
 raising pair at station 17, side right
 lowering pair at station -3, side left
 service none
-ultimate greatest 41 row 32, left out 10, traffic counts
+ultimate greatest 41 row 32, left out 10, traffic counts, k 1300
 ultimate least -42 row 1, left out 0, traffic left out
 ";
     assert_eq!(page(5, &account), expected);

@@ -1,8 +1,11 @@
 //! 01 "What the yard hears back": each refusal at many places. The places are
 //! counted by hand from the words of `SOUND`, never taken from the code.
 
+mod common;
+
+use common::refused;
+use second::solve;
 use second::words::bytes_of;
-use second::{solve, Account};
 
 /// A sound job of 42 words.
 const SOUND: [i32; 42] = [
@@ -30,18 +33,6 @@ fn with(changes: &[(usize, i32)]) -> Vec<i32> {
         words[place] = word;
     }
     words
-}
-
-/// Holds a job's refusal and place against the ones expected, and that the
-/// account is zero and the patch buffer keeps its bytes.
-#[track_caller]
-fn refused(job: &[u8], patch_bytes: usize, expected: (u64, u64), what: &str) {
-    let before: Vec<u8> = (0..patch_bytes).map(|byte| byte as u8 ^ 0xA5).collect();
-    let mut patch = before.clone();
-    let answer = solve(job, &mut patch);
-    assert_eq!((answer.refusal, answer.place), expected, "{what}");
-    assert_eq!(answer.account, Account::default(), "{what}");
-    assert_eq!(patch, before, "{what}");
 }
 
 #[track_caller]

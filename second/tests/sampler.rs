@@ -5,7 +5,9 @@ mod common;
 
 use common::{level_job, pieces, two_lane_job};
 use second::account::{Account, State};
-use second::generator::edition_1::sound_job;
+use second::combination::{Combination, Part};
+use second::farm_job::farm_job;
+use second::generator::{sound_job, Edition};
 use second::job::Job;
 use second::job_a::job_a;
 use second::lanes::{breakpoint_centres, centre_limits, lane_count, transverse_ordinate};
@@ -18,11 +20,14 @@ use second::sampler::{first_beating, Beating, Sampler};
 use second::solve::account_of;
 use second::traffic::lanes_of;
 
+/// Edition 4 half as often as edition 1.
+const EDITIONS: [Edition; 3] = [Edition::One, Edition::One, Edition::Four];
+
 #[test]
 fn every_draw_is_lawful() {
     for seed in 0..400 {
         let mut rng = Rng::new(seed);
-        let job = sound_job(&mut rng);
+        let job = sound_job(&mut rng, EDITIONS[seed as usize % 3]);
         let sampler = Sampler::new(&job);
         for live in Live::BOTH {
             for question in Question::BOTH {
@@ -37,13 +42,16 @@ fn every_draw_is_lawful() {
 
 #[test]
 fn right_reports_are_not_beaten() {
-    for job in [job_a(), two_lane_job(), level_job(2000, 50, vec![1000; 41])] {
+    let level = level_job(2000, 50, vec![1000; 41]);
+    for job in [job_a(), two_lane_job(), level, farm_job()] {
         assert_eq!(first_beating(&job, &account_of(&job), 1, 4000), None);
     }
-    for seed in 0..500 {
-        let job = sound_job(&mut Rng::new(seed));
-        let beating = first_beating(&job, &account_of(&job), seed, 60);
-        assert_eq!(beating, None, "seed {seed}");
+    for edition in Edition::ALL {
+        for seed in 0..500 {
+            let job = sound_job(&mut Rng::new(seed), edition);
+            let beating = first_beating(&job, &account_of(&job), seed, 60);
+            assert_eq!(beating, None, "{edition:?}, seed {seed}");
+        }
     }
 }
 
@@ -61,12 +69,14 @@ fn values_short_by_1_are_beaten() {
         |account| account.ultimate.greatest.value -= 1,
         |account| account.ultimate.least.value += 1,
     ];
-    let sound_jobs = (0..60).map(|seed| sound_job(&mut Rng::new(seed)));
-    let jobs = sound_jobs.chain([job_a(), two_lane_job()]);
+    let sound_jobs =
+        (0..90).map(|seed| sound_job(&mut Rng::new(seed), EDITIONS[seed as usize % 3]));
+    let jobs = sound_jobs.chain([job_a(), two_lane_job(), farm_job()]);
     for (job_number, job) in jobs.enumerate() {
         let account = account_of(&job);
         for (number, change) in changes.iter().enumerate() {
-            let state_has_rows = |state| job.rows.iter().any(|row| row.state == state);
+            let rows = job.combinations();
+            let state_has_rows = |state| rows.iter().any(|row| row.state == state);
             if (4..6).contains(&number) && !state_has_rows(1) {
                 continue;
             }
@@ -136,7 +146,15 @@ enum Sham {
     TriesLimitsOnlyForCentres,
     ReadsRow1Only,
     LeavesNothingOut,
+    AlwaysTakesTheLargerK,
+    TakesKByTheSignOfDl,
+    CountsOwIn2C,
+    TakesTheShareAfterRounding,
 }
+
+/// A farm bridge's OW, and its rows of group 2C with the factor of their others.
+const OW: usize = 3;
+const ROWS_2C: [(u32, i64); 2] = [(5, 1000), (15, 1200)];
 
 /// A kernel's values, with something overlooked; its placements are not used.
 fn sham_account(job: &Job, sham: Sham) -> Account {
@@ -199,6 +217,9 @@ fn sham_longitudinal(job: &Job, sham: Sham, element: Element, direction: Directi
 }
 
 fn sham_value(job: &Job, sham: Sham, live: Live, question: Question) -> i64 {
+    if live == Live::Overload && job.edition == Edition::Four {
+        return 0;
+    }
     let lanes = lane_count(job.width);
     let of_element = |element: Element| -> Vec<i128> {
         let raising = sham_longitudinal(job, sham, element, Direction::Raising);
@@ -259,32 +280,70 @@ fn sham_value(job: &Job, sham: Sham, live: Live, question: Question) -> i64 {
     };
     let dynamic = dynamic_factor(job.dynamic_kind, job.dynamic_value);
     let n_times_g = lanes as i128 * i128::from(job.spacing);
-    let effect = question.round(3 * sum * i128::from(dynamic), 800_000 * n_times_g);
+    let twentieths = match job.edition {
+        Edition::Four => 17,
+        _ => 20,
+    };
+    let (dividend, divisor) = (3 * sum * i128::from(dynamic), 800_000 * n_times_g);
+    let effect = match sham {
+        Sham::TakesTheShareAfterRounding => question.round(dividend, divisor) * twentieths / 20,
+        _ => question.round(dividend * twentieths, divisor * 20),
+    };
     i64::try_from(effect).unwrap()
 }
 
 fn sham_state(job: &Job, account: &Account, sham: Sham, state: i64, question: Question) -> i64 {
-    let rows = job.rows.iter().filter(|row| row.state == state);
+    let rows = job.combinations();
     let rows_read = match sham {
         Sham::ReadsRow1Only => 1,
-        _ => job.rows.len(),
+        _ => rows.len(),
     };
-    let values = rows.take(rows_read).map(|row| {
-        let traffic = Live::of_row(row.live_kind).map_or(0, |live| {
-            row.live_factor * account.traffic(live, question).value
-        });
-        let parts = job.chain(row).into_iter().map(|record| {
-            let effect = job.effects[record.effect - 1];
-            let part = record.factor * 1000 * effect.value;
-            if effect.mark == 2 && sham != Sham::LeavesNothingOut && question.beats(0, part) {
-                0
-            } else {
-                part
-            }
-        });
-        i128::from(traffic + parts.sum::<i64>())
-    });
+    let of_state = rows.iter().filter(|row| row.state == state);
+    let values = of_state
+        .take(rows_read)
+        .flat_map(|row| sham_row(job, account, sham, row, question));
     furthest(question, values) as i64
+}
+
+/// A row's values, one for each k that the sham takes.
+fn sham_row(
+    job: &Job,
+    account: &Account,
+    sham: Sham,
+    row: &Combination,
+    question: Question,
+) -> Vec<i128> {
+    let traffic = row.live.map_or(0, |live| {
+        row.live_factor * account.traffic(live, question).value
+    });
+    let takes = |k: u32| match sham {
+        Sham::AlwaysTakesTheLargerK => k != 800,
+        Sham::TakesKByTheSignOfDl => k == 0 || (k == 1300) == (job.effects[0].value > 0),
+        _ => true,
+    };
+    let variants = row.variants.iter().filter(|variant| takes(variant.k));
+    let values = variants.map(|variant| {
+        let mut parts = variant.parts.clone();
+        let in_2c = ROWS_2C.iter().find(|(number, _)| *number == row.row);
+        if let (Sham::CountsOwIn2C, Some(&(_, factor))) = (sham, in_2c) {
+            parts.push(Part { effect: OW, factor });
+        }
+        let counted = parts
+            .into_iter()
+            .map(|part| sham_part(job, sham, part, question));
+        i128::from(traffic + counted.sum::<i64>())
+    });
+    values.collect()
+}
+
+fn sham_part(job: &Job, sham: Sham, part: Part, question: Question) -> i64 {
+    let effect = job.effects[part.effect - 1];
+    let counts = part.factor * 1000 * effect.value;
+    if effect.mark == 2 && sham != Sham::LeavesNothingOut && question.beats(0, counts) {
+        0
+    } else {
+        counts
+    }
 }
 
 fn values(account: &Account) -> [i64; 8] {
@@ -300,23 +359,48 @@ fn values(account: &Account) -> [i64; 8] {
     ]
 }
 
+/// Whether some value is less far than is due.
+fn falls_short(found: &Account, right: &Account) -> bool {
+    let (found, right) = (values(found), values(right));
+    let questions = [Question::Greatest, Question::Least].into_iter().cycle();
+    let mut pairs = questions.zip(right.into_iter().zip(found));
+    pairs.any(|(question, (right, found))| question.beats(right, found))
+}
+
 /// Without a sham, the sham kernel is right; so what the next test finds is
 /// the sham's doing.
 #[test]
 fn the_sham_kernel_is_right_where_it_overlooks_nothing() {
-    for seed in 0..300 {
-        let job = sound_job(&mut Rng::new(seed));
+    for (seed, edition) in (0..300).zip(Edition::ALL.into_iter().cycle()) {
+        let job = sound_job(&mut Rng::new(seed), edition);
         let right = account_of(&job);
         let found = sham_account(&job, Sham::Nothing);
-        assert_eq!(values(&found), values(&right), "seed {seed}");
+        assert_eq!(values(&found), values(&right), "{edition:?}, seed {seed}");
     }
 }
 
-/// Every report that a sham gets wrong is beaten: none of them goes too far,
-/// they all fall short.
+/// Every report of a sham kernel that falls short is beaten.
+#[track_caller]
+fn are_beaten(edition: Edition, shams: &[Sham]) {
+    for &sham in shams {
+        let mut short = 0;
+        for seed in 0..300 {
+            let job = sound_job(&mut Rng::new(seed), edition);
+            let found = sham_account(&job, sham);
+            if !falls_short(&found, &account_of(&job)) {
+                continue;
+            }
+            short += 1;
+            let beating = first_beating(&job, &found, seed, 6000);
+            assert!(beating.is_some(), "{sham:?}, seed {seed}");
+        }
+        assert!(short >= 5, "{sham:?} is short for {short} jobs only");
+    }
+}
+
 #[test]
 fn sham_kernels_are_beaten() {
-    for sham in [
+    let shams = [
         Sham::LoadsLane1Only,
         Sham::LoadsEveryLane,
         Sham::NeverLoadsTheFifthLane,
@@ -328,20 +412,48 @@ fn sham_kernels_are_beaten() {
         Sham::TriesLimitsOnlyForCentres,
         Sham::ReadsRow1Only,
         Sham::LeavesNothingOut,
-    ] {
-        let mut wrong = 0;
-        for seed in 0..150 {
-            let job = sound_job(&mut Rng::new(seed));
-            let found = sham_account(&job, sham);
-            if values(&found) == values(&account_of(&job)) {
-                continue;
-            }
-            wrong += 1;
-            let beating = first_beating(&job, &found, seed, 6000);
-            assert!(beating.is_some(), "{sham:?}, seed {seed}");
-        }
-        assert!(wrong >= 5, "{sham:?} is wrong for {wrong} jobs only");
-    }
+    ];
+    are_beaten(Edition::One, &shams);
+}
+
+#[test]
+fn sham_kernels_of_farm_jobs_are_beaten() {
+    let shams = [
+        Sham::TriesStationsOnTheLineOnly,
+        Sham::TriesTheRightSideOnly,
+        Sham::RaisesEveryLane,
+        Sham::TriesLimitsOnlyForCentres,
+        Sham::ReadsRow1Only,
+        Sham::LeavesNothingOut,
+        Sham::AlwaysTakesTheLargerK,
+        Sham::TakesKByTheSignOfDl,
+        Sham::CountsOwIn2C,
+        Sham::TakesTheShareAfterRounding,
+    ];
+    are_beaten(Edition::Four, &shams);
+}
+
+/// The farm job's ultimate least is 3A's with 0.8, and nothing else goes as far:
+/// a report that is higher by 1 is beaten by that alone.
+#[test]
+fn a_beating_names_its_k() {
+    let job = farm_job();
+    let mut account = account_of(&job);
+    assert_eq!(
+        (account.ultimate.least.row, account.ultimate.least.k),
+        (16, 800)
+    );
+    account.ultimate.least.value += 1;
+    let beating = first_beating(&job, &account, 1, 8000);
+    let Some(Beating::State {
+        state: 2,
+        row: 16,
+        k: 800,
+        ..
+    }) = beating
+    else {
+        panic!("{beating:?}");
+    };
 }
 
 /// A line whose worst stand has its left axle off the line: a kernel that

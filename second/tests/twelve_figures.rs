@@ -1,5 +1,6 @@
 //! 01 "Twelve figures to prove", as one table.
 
+use second::edition::Edition;
 use second::job::{Job, Piece, Row, LIVE_NONE, SERVICE};
 use second::job_a::job_a;
 use second::lanes::{breakpoint_centres, centre_limits, lane_count, transverse_ordinate};
@@ -11,11 +12,13 @@ use second::solve;
 /// 1300.
 fn lowering_piece() -> Job {
     Job {
+        edition: Edition::One,
         piece_length: 50,
         spacing: 50,
         width: 300,
         dynamic_kind: 1,
         dynamic_value: 1300,
+        further_header: vec![],
         pieces: vec![Piece {
             left: -10,
             right: -10,

@@ -6,6 +6,7 @@
 mod common;
 
 use common::train_case;
+use second::farm_job::farm_job;
 use second::job_a::job_a;
 use second::solve;
 use second::train::{rate, TrainCase};
@@ -92,6 +93,28 @@ fn each_fault_is_refused_with_4_at_its_place() {
         let answer = rate(&train_with(&fault.changes));
         let due = (4, fault.place as u64);
         assert_eq!((answer.refusal, answer.place), due, "{fault:?}");
+    }
+}
+
+/// The same for the example farm job: its line has the words from 11 on, its nine
+/// transverse ordinates 31 to 39.
+#[test]
+fn each_fault_of_a_farm_job_is_refused_with_4_at_its_place() {
+    let words = farm_job().words();
+    let ordinates = Ordinates::of_job(&words);
+    let faults = ordinates.faults();
+    assert_eq!(faults.iter().map(|fault| fault.place).min(), Some(11));
+    assert_eq!(faults.iter().map(|fault| fault.place).max(), Some(39));
+    let answer = |changes: &[Change]| {
+        let answer = solve(&bytes_of(&changed(&words, changes)), &mut [0; 10]);
+        (answer.refusal, answer.place)
+    };
+    for fault in faults {
+        let due = (4, fault.place as u64);
+        assert_eq!(answer(&fault.changes), due, "{fault:?}");
+    }
+    for changes in ordinates.extremes() {
+        assert_eq!(answer(&changes), (0, 0), "{changes:?}");
     }
 }
 

@@ -11,6 +11,17 @@ pub(super) fn first_last_or_any(rng: &mut Rng, length: usize) -> usize {
     rng.pick(&[0, length - 1, any])
 }
 
+/// A patch buffer of so many bytes or more.
+pub(super) fn sufficient_patch(rng: &mut Rng, pieces: usize) -> Vec<u8> {
+    let over = rng.pick(&[0, 0, 0, 1, 7, 100]);
+    let length = if rng.one_in(4) {
+        pieces.max(1000)
+    } else {
+        pieces + over
+    };
+    any_bytes(rng, length)
+}
+
 pub(super) fn any_bytes(rng: &mut Rng, length: usize) -> Vec<u8> {
     (0..length).map(|_| rng.number() as u8).collect()
 }

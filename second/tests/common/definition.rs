@@ -1,15 +1,17 @@
-//! What 01 makes due for a job, by trying everything that it names: every
-//! station and side, every centre in n-ths of a cm, every lane set and HO lane,
-//! every row with every omission. Of the crate only the shape of an answer is
+//! What 01 and 02 "Farm bridges" make due for a job, by trying everything that
+//! they name: every station and side, every centre in n-ths of a cm, every lane
+//! set and HO lane, every row with every k and every omission. Of the crate only the shape of an answer is
 //! used, so a slip in the solver, or in what the solver and the checker share,
 //! shows beside it.
 
-use second::account::{Answer, State};
+use super::farm_tables::{FIRST_ULTIMATE_ROW, K, LIVE, ROWS, ROW_OF_K};
+use second::account::{Answer, Governing, State};
 use std::collections::{BTreeMap, BTreeSet};
 
 /// A call's answer and patch buffer, with all that is due in its place: the
-/// refusal, or the values, the governing rows and the patch bytes. The
-/// placements and omissions given are kept where the job is accepted.
+/// refusal, or the values, the governing rows with their k and the patch bytes.
+/// The placements and omissions given, and a k that is as good as the other, are
+/// kept where the job is accepted.
 pub fn due(job: &[u8], before: &[u8], given: &Answer) -> (Answer, Vec<u8>) {
     let words: Vec<i64> = job
         .chunks_exact(4)
@@ -59,7 +61,7 @@ struct Parts<'a> {
 impl Parts<'_> {
     /// The sections of as many words as the header calls for.
     fn of(words: &[i64]) -> Parts<'_> {
-        let (header, rest) = words.split_at(10);
+        let (header, rest) = words.split_at(header_words(words).expect("an edition"));
         let [line, transverse, effects, rows, _] = section_lengths(header);
         let (line, rest) = rest.split_at(line);
         let (transverse, rest) = rest.split_at(transverse);
@@ -89,6 +91,19 @@ impl Parts<'_> {
     }
 }
 
+/// The words of a header of the edition that word 0 names.
+fn header_words(words: &[i64]) -> Option<usize> {
+    match words.first()? {
+        1 => Some(10),
+        4 => Some(11),
+        _ => None,
+    }
+}
+
+fn is_farm_job(header: &[i64]) -> bool {
+    header[0] == 4
+}
+
 fn section_lengths(header: &[i64]) -> [usize; 5] {
     let [pieces, spacing, width] = [header[2], header[3], header[4]];
     let [effects, rows, records] = [header[7], header[8], header[9]];
@@ -96,23 +111,32 @@ fn section_lengths(header: &[i64]) -> [usize; 5] {
     [2 * pieces, spaces + 1, 2 * effects, 4 * rows, 3 * records].map(|words| words as usize)
 }
 
-/// The lowest refusal with its lowest place.
+/// The lowest refusal with its lowest place; 11 comes after 2.
 fn refusal(bytes: usize, words: &[i64], patch_bytes: usize) -> Option<(u64, usize)> {
-    if words.len() < 10 || !bytes.is_multiple_of(4) || words[0] != 1 {
+    let Some(header) = header_words(words) else {
+        return Some((1, 0));
+    };
+    if words.len() < header || !bytes.is_multiple_of(4) {
         return Some((1, 0));
     }
-    let header_place = (1..10).find(|&place| !header_word_is_lawful(words, place));
+    let header_place = (1..header).find(|&place| !header_word_is_lawful(words, place));
     if let Some(place) = header_place {
         return Some((2, place));
     }
-    let words_due = 10 + section_lengths(words).iter().sum::<usize>();
+    if is_farm_job(words) {
+        let (narrowest, widest) = [(300, 370), (300, 370), (370, 430)][words[10] as usize - 1];
+        if words[4] < narrowest || words[4] > widest {
+            return Some((11, 4));
+        }
+    }
+    let words_due = header + section_lengths(words).iter().sum::<usize>();
     if words.len() != words_due {
         return Some((3, words_due));
     }
 
     let job = Parts::of(words);
     let mut faults = vec![];
-    let mut start = 10;
+    let mut start = header;
     let sections = [
         ("line", job.line, 2),
         ("transverse", job.transverse, 1),
@@ -129,7 +153,7 @@ fn refusal(bytes: usize, words: &[i64], patch_bytes: usize) -> Option<(u64, usiz
         for (at, group) in section.chunks(each).enumerate() {
             let place = start + at * each;
             for (within, &word) in group.iter().enumerate() {
-                let (from, to) = limits(words, name, within, group);
+                let (from, to) = limits(words, name, at, within, group);
                 if word < from || word > to {
                     faults.push((number, place + within));
                 }
@@ -141,7 +165,7 @@ fn refusal(bytes: usize, words: &[i64], patch_bytes: usize) -> Option<(u64, usiz
         start += section.len();
     }
     if faults.is_empty() {
-        let rows_start = 10 + job.line.len() + job.transverse.len() + job.effects.len();
+        let rows_start = header + job.line.len() + job.transverse.len() + job.effects.len();
         for (at, row) in job.rows.chunks(4).enumerate() {
             let chain = job.chain(row[3]);
             let named: BTreeSet<i64> = chain.iter().map(|record| record[0]).collect();
@@ -169,20 +193,25 @@ fn header_word_is_lawful(words: &[i64], place: usize) -> bool {
         4 => (300, 2079),
         5 => (1, 3),
         6 => [(1000, 1300), (0, 0), (0, 5000)][words[5] as usize - 1],
+        7 if is_farm_job(words) => (11, 11),
+        8 | 9 if is_farm_job(words) => (0, 0),
         7 => (0, 16),
         8 => (1, 32),
-        _ => (0, 512),
+        9 => (0, 512),
+        _ => (1, 3),
     };
     from <= word && word <= to
 }
 
-/// The limits of a word within a piece, an effect, a row or a record.
-fn limits(header: &[i64], section: &str, within: usize, group: &[i64]) -> (i64, i64) {
+/// The limits of a word within a piece, an effect, a row or a record, the
+/// section's first being at 0.
+fn limits(header: &[i64], section: &str, at: usize, within: usize, group: &[i64]) -> (i64, i64) {
     let (effects, records) = (header[7], header[9]);
     match (section, within) {
         ("line", _) => (-5000, 5000),
         ("transverse", _) => (-1000, 1000),
         ("effects", 0) => (-1_000_000_000, 1_000_000_000),
+        ("effects", _) if is_farm_job(header) => [(1, 1), (2, 2)][usize::from(at >= 3)],
         ("effects", _) | ("rows", 0) => (1, 2),
         ("rows", 1) => (0, 2),
         ("rows", 2) if group[1] == 0 => (0, 0),
@@ -215,7 +244,8 @@ impl Furthest {
 /// r in twentieths for 1 to 5 lanes.
 const R: [i64; 6] = [0, 20, 18, 16, 14, 12];
 
-/// Normal and overload, over every lane set and every HO lane in it.
+/// Normal and overload, over every lane set and every HO lane in it; a farm job
+/// has 0.85 HN and no HO.
 fn traffic(job: &Parts) -> [Furthest; 2] {
     let [kind, value] = [job.header[5], job.header[6]];
     let dynamic = match kind {
@@ -231,11 +261,12 @@ fn traffic(job: &Parts) -> [Furthest; 2] {
             .collect()
     };
     let (hn, ho) = (in_lanes(1600), in_lanes(3200));
+    let twentieths_of_x = if is_farm_job(job.header) { 17 } else { 20 };
     // What stands in a lane carries n times g from its transverse ordinate.
-    let over = i128::from(800_000 * n * job.header[3]);
+    let over = i128::from(20 * 800_000 * n * job.header[3]);
     let effect = |twentieths: Furthest| {
         let [greatest, least] = [twentieths.greatest, twentieths.least]
-            .map(|sum| 3 * i128::from(sum) * i128::from(dynamic));
+            .map(|sum| 3 * twentieths_of_x * i128::from(sum) * i128::from(dynamic));
         let up = greatest / over + i128::from(greatest % over > 0);
         let down = least / over - i128::from(least % over < 0);
         Furthest {
@@ -250,13 +281,21 @@ fn traffic(job: &Parts) -> [Furthest; 2] {
 
     let mut normal = Furthest::NOTHING_TRIED;
     let mut overload = Furthest::NOTHING_TRIED;
+    if is_farm_job(job.header) {
+        overload.take(0, 0);
+    }
     for set in 0..1_u32 << n {
         let loaded: Vec<usize> = (0..n as usize)
             .filter(|lane| set >> lane & 1 == 1)
             .collect();
         let tried = effect(sum_at_r(&loaded));
         normal.take(tried.greatest, tried.least);
-        for &ho_lane in &loaded {
+        let ho_lanes = if is_farm_job(job.header) {
+            &[][..]
+        } else {
+            &loaded
+        };
+        for &ho_lane in ho_lanes {
             let mut others = loaded.clone();
             others.retain(|&lane| lane != ho_lane);
             let beside = sum_at_r(&others);
@@ -333,38 +372,106 @@ fn transverse_ordinates(job: &Parts, lane: i64) -> BTreeSet<i64> {
         .collect()
 }
 
-/// A state's values and rows, over every row with every omission.
-fn put_state(job: &Parts, state: i64, traffic: [Furthest; 2], reported: &mut State) {
+/// A row: its number, its state, its live kind and factor, its k and its effects
+/// with their factors.
+struct RowParts {
+    number: u32,
+    state: i64,
+    live: [i64; 2],
+    k: u32,
+    effects: Vec<[i64; 2]>,
+}
+
+/// The rows of the job's words.
+fn own_rows(job: &Parts) -> Vec<RowParts> {
     let rows = (1..).zip(job.rows.chunks(4));
-    let mut furthest = Furthest::NOTHING_TRIED;
-    let (mut greatest_row, mut least_row) = (0, 0);
-    for (number, row) in rows.filter(|(_, row)| row[0] == state) {
-        let tried = in_row(job, row, traffic);
-        if tried.greatest > furthest.greatest {
-            greatest_row = number;
+    rows.map(|(number, row)| RowParts {
+        number,
+        state: row[0],
+        live: [row[1], row[2]],
+        k: 0,
+        effects: job.chain(row[3]).iter().map(|r| [r[0], r[1]]).collect(),
+    })
+    .collect()
+}
+
+/// A farm job's rows, that of k once for each.
+fn farm_rows() -> Vec<RowParts> {
+    let mut rows = vec![];
+    for (number, factors) in (1..).zip(ROWS) {
+        let choices = if number == ROW_OF_K {
+            vec![1300, 800]
+        } else {
+            vec![0]
+        };
+        for k in choices {
+            let effects = (1..)
+                .zip(&factors[..LIVE])
+                .filter(|(_, factor)| **factor != 0);
+            rows.push(RowParts {
+                number: number as u32,
+                state: 1 + i64::from(number >= FIRST_ULTIMATE_ROW),
+                live: [i64::from(factors[LIVE] != 0), factors[LIVE]],
+                k,
+                effects: effects
+                    .map(|(effect, &factor)| [effect, if factor == K { k.into() } else { factor }])
+                    .collect(),
+            });
         }
-        if tried.least < furthest.least {
-            least_row = number;
-        }
-        furthest.take(tried.greatest, tried.least);
     }
-    if greatest_row == 0 {
+    rows
+}
+
+/// A state's values and rows, over every row with every k and every omission.
+fn put_state(job: &Parts, state: i64, traffic: [Furthest; 2], reported: &mut State) {
+    let rows = if is_farm_job(job.header) {
+        farm_rows()
+    } else {
+        own_rows(job)
+    };
+    let tried: Vec<(&RowParts, Furthest)> = rows
+        .iter()
+        .filter(|row| row.state == state)
+        .map(|row| (row, in_row(job, row, traffic)))
+        .collect();
+    if tried.is_empty() {
         *reported = State::default();
         return;
     }
     reported.present = 1;
-    (reported.greatest.value, reported.greatest.row) = (furthest.greatest, greatest_row);
-    (reported.least.value, reported.least.row) = (furthest.least, least_row);
+    let values = |of: fn(&Furthest) -> i64| -> Vec<(i64, u32, u32)> {
+        let rows = tried.iter();
+        rows.map(|(row, tried)| (of(tried), row.number, row.k))
+            .collect()
+    };
+    let (greatest, least) = (values(|tried| tried.greatest), values(|tried| tried.least));
+    let value = greatest.iter().map(|tried| tried.0).max().expect("rows");
+    put_governing(value, &greatest, &mut reported.greatest);
+    let value = least.iter().map(|tried| tried.0).min().expect("rows");
+    put_governing(value, &least, &mut reported.least);
+}
+
+/// The lowest row that gives the value, and a k with which it does.
+fn put_governing(value: i64, tried: &[(i64, u32, u32)], reported: &mut Governing) {
+    let mut giving = tried.iter().filter(|tried| tried.0 == value);
+    let row = giving.clone().map(|tried| tried.1).min().expect("a row");
+    let keeps_k = giving
+        .clone()
+        .any(|tried| tried.1 == row && tried.2 == reported.k);
+    (reported.value, reported.row) = (value, row);
+    if !keeps_k {
+        reported.k = giving.find(|tried| tried.1 == row).expect("its row").2;
+    }
 }
 
 /// A row with each effect marked 2, and the traffic, left out or not.
-fn in_row(job: &Parts, row: &[i64], traffic: [Furthest; 2]) -> Furthest {
+fn in_row(job: &Parts, row: &RowParts, traffic: [Furthest; 2]) -> Furthest {
     let mut sums = vec![0];
-    for record in job.chain(row[3]) {
-        let effect = &job.effects[2 * (record[0] as usize - 1)..][..2];
+    for &[number, factor] in &row.effects {
+        let effect = &job.effects[2 * (number as usize - 1)..][..2];
         let kept: Vec<i64> = sums
             .iter()
-            .map(|sum| sum + record[1] * 1000 * effect[0])
+            .map(|sum| sum + factor * 1000 * effect[0])
             .collect();
         if effect[1] == 2 {
             sums.extend(kept);
@@ -373,13 +480,14 @@ fn in_row(job: &Parts, row: &[i64], traffic: [Furthest; 2]) -> Furthest {
         }
     }
     let mut furthest = Furthest::NOTHING_TRIED;
+    let [live_kind, live_factor] = row.live;
     for sum in sums {
         furthest.take(sum, sum);
-        if row[1] != 0 {
-            let traffic = traffic[row[1] as usize - 1];
+        if live_kind != 0 {
+            let traffic = traffic[live_kind as usize - 1];
             furthest.take(
-                sum + row[2] * traffic.greatest,
-                sum + row[2] * traffic.least,
+                sum + live_factor * traffic.greatest,
+                sum + live_factor * traffic.least,
             );
         }
     }

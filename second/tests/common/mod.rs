@@ -2,15 +2,31 @@
 
 #![allow(dead_code)] // Each test file uses some of these.
 
+pub mod call;
 pub mod definition;
+pub mod farm_tables;
 pub mod train_definition;
 
+use second::edition::Edition;
 use second::job::{
     Effect, Job, Piece, Record, Row, ALWAYS_PRESENT, LIVE_NONE, LIVE_NORMAL, LIVE_OVERLOAD,
     MAY_BE_LEFT_OUT, SERVICE, ULTIMATE,
 };
 use second::line::section_bytes;
 use second::train::{Axle, TrainCase};
+use second::{solve, Account};
+
+/// Holds a job's refusal and place against the ones expected, and that the
+/// account is zero and the patch buffer keeps its bytes.
+#[track_caller]
+pub fn refused(job: &[u8], patch_bytes: usize, expected: (u64, u64), what: &str) {
+    let before: Vec<u8> = (0..patch_bytes).map(|byte| byte as u8 ^ 0xA5).collect();
+    let mut patch = before.clone();
+    let answer = solve(job, &mut patch);
+    assert_eq!((answer.refusal, answer.place), expected, "{what}");
+    assert_eq!(answer.account, Account::default(), "{what}");
+    assert_eq!(patch, before, "{what}");
+}
 
 pub fn pieces(ordinates: &[(i64, i64)]) -> Vec<Piece> {
     ordinates
@@ -64,11 +80,13 @@ pub fn two_lane_job() -> Job {
     };
     let effect = |value, mark| Effect { value, mark };
     Job {
+        edition: Edition::One,
         piece_length: 25,
         spacing: 50,
         width: 720,
         dynamic_kind: 2,
         dynamic_value: 0,
+        further_header: vec![],
         pieces: pieces(&[(0, 100), (100, 0), (0, -60), (-60, 0)]),
         transverse: (0..=15).map(|number| 1000 - 100 * number).collect(),
         effects: vec![
@@ -98,11 +116,13 @@ pub fn two_lane_job() -> Job {
 /// HO 5600 + 3200 * 8 = 31200; lowering is 0. The dynamic factor is 1000.
 pub fn level_job(width: i64, spacing: i64, transverse: Vec<i64>) -> Job {
     Job {
+        edition: Edition::One,
         piece_length: 50,
         spacing,
         width,
         dynamic_kind: 2,
         dynamic_value: 0,
+        further_header: vec![],
         pieces: pieces(&[(8, 8)]),
         transverse,
         effects: vec![],
@@ -113,5 +133,27 @@ pub fn level_job(width: i64, spacing: i64, transverse: Vec<i64>) -> Job {
             first: 0,
         }],
         records: vec![],
+    }
+}
+
+/// A farm bridge without barriers on one piece of 5 m with both ordinates 8, W
+/// 300 and all transverse ordinates 1000; the effects in kN·U, DL first. Raising
+/// HN is 18400, so normal greatest is 18400 * 1000 * 20 * 1000 * 3 / 800000 =
+/// 1380000, times 17/20 = 1173000 N·U; normal least is 0.
+pub fn small_farm_job(values: [i64; 11]) -> Job {
+    let marked = (0..).zip(values).map(|(at, value)| Effect {
+        value,
+        mark: if at < 3 {
+            ALWAYS_PRESENT
+        } else {
+            MAY_BE_LEFT_OUT
+        },
+    });
+    Job {
+        edition: Edition::Four,
+        further_header: vec![1],
+        effects: marked.collect(),
+        rows: vec![],
+        ..level_job(300, 50, vec![1000; 7])
     }
 }

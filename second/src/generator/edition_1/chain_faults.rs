@@ -8,7 +8,7 @@ use crate::rng::Rng;
 
 /// Gives a row a chain of two or more records, by making new ones if need be,
 /// where two of them name the same effect.
-pub(super) fn name_an_effect_twice(rng: &mut Rng, job: &mut Job) {
+pub(crate) fn name_an_effect_twice(rng: &mut Rng, job: &mut Job) {
     let at = first_last_or_any(rng, job.rows.len());
     lengthen_chain(rng, job, at, 2);
     let numbers = chain_numbers(job, at);
@@ -18,7 +18,7 @@ pub(super) fn name_an_effect_twice(rng: &mut Rng, job: &mut Job) {
 }
 
 /// Leads the last record of a row's chain back to one on the chain.
-pub(super) fn return_to_a_record(rng: &mut Rng, job: &mut Job) {
+pub(crate) fn return_to_a_record(rng: &mut Rng, job: &mut Job) {
     let at = first_last_or_any(rng, job.rows.len());
     lengthen_chain(rng, job, at, 1);
     let numbers = chain_numbers(job, at);

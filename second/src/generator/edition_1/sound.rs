@@ -2,9 +2,11 @@
 //! every number at an end of its limits.
 
 use super::tables::{scramble_unused, sound_effects, sound_records, sound_rows};
-use super::transverse::sound_transverse;
+use crate::edition::Edition;
 use crate::generator::draws::sign;
+use crate::generator::header::{ordinates_across, sound_dynamic, sound_spacing};
 use crate::generator::line::{sound_line, sound_piece_length, sound_pieces, LONGEST_LINE};
+use crate::generator::transverse::sound_transverse;
 use crate::job::{
     Effect, Job, Piece, Record, Row, ALWAYS_PRESENT, LIVE_NORMAL, LIVE_OVERLOAD, MAY_BE_LEFT_OUT,
     SERVICE, ULTIMATE,
@@ -19,30 +21,27 @@ pub fn sound_job(rng: &mut Rng) -> Job {
     }
     let piece_length = sound_piece_length(rng);
     let pieces = sound_pieces(rng, piece_length);
-    let spacing = match rng.below(4) {
-        0 => 10,
-        1 => 50,
-        _ => rng.between(10, 50),
-    };
+    let spacing = sound_spacing(rng);
     let width = sound_width(rng);
     let (dynamic_kind, dynamic_value) = sound_dynamic(rng);
-    let last_ordinate = (width + spacing - 1) / spacing;
     let effects = sound_effects(rng);
     let mut records = sound_records(rng, effects.len());
     let rows = sound_rows(rng, records.len());
     scramble_unused(rng, &rows, &mut records, effects.len());
     Job {
+        edition: Edition::One,
         piece_length,
         spacing,
         width,
         dynamic_kind,
         dynamic_value,
+        further_header: vec![],
         pieces: sound_line(
             rng,
             pieces as usize,
             (AXLE_DISTANCE / piece_length) as usize,
         ),
-        transverse: sound_transverse(rng, last_ordinate as usize + 1),
+        transverse: sound_transverse(rng, ordinates_across(width, spacing)),
         effects,
         rows,
         records,
@@ -69,15 +68,16 @@ fn extreme_job(rng: &mut Rng) -> Job {
         live_factor: 3000,
         first: 1,
     };
-    let last_ordinate = (width + spacing - 1) / spacing;
     Job {
+        edition: Edition::One,
         piece_length,
         spacing,
         width,
         dynamic_kind: 1,
         dynamic_value: 1300,
+        further_header: vec![],
         pieces: vec![piece; (LONGEST_LINE / piece_length) as usize],
-        transverse: vec![level; last_ordinate as usize + 1],
+        transverse: vec![level; ordinates_across(width, spacing)],
         effects: vec![Effect { value, mark }; 16],
         rows: vec![row(SERVICE, LIVE_NORMAL), row(ULTIMATE, LIVE_OVERLOAD)],
         records: (1..=16)
@@ -96,21 +96,5 @@ fn sound_width(rng: &mut Rng) -> i64 {
         0 => rng.pick(&LANE_LIMITS),
         1 => (rng.pick(&LANE_LIMITS) + rng.between(-2, 2)).clamp(300, 2079),
         _ => rng.between(300, 2079),
-    }
-}
-
-fn sound_dynamic(rng: &mut Rng) -> (i64, i64) {
-    match rng.below(4) {
-        0 => (2, 0),
-        1 => (1, rng.pick(&[1000, 1001, 1299, 1300])),
-        2 => (1, rng.between(1000, 1300)),
-        _ => {
-            let around_100 = rng.between(97, 103);
-            let any = rng.between(0, 5000);
-            (
-                3,
-                rng.pick(&[0, 1, 50, 99, 100, 101, 5000, around_100, any]),
-            )
-        }
     }
 }

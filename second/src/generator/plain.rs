@@ -1,14 +1,13 @@
 //! Makes plain bytes: any bytes or words, alone, after a sound header, or in
 //! place of a few of a sound job's.
 
-use super::sound::sound_job;
-use crate::generator::draws::any_bytes;
-use crate::generator::Case;
+use super::draws::any_bytes;
+use super::{sound_job, Case};
+use crate::edition::Edition;
 use crate::rng::Rng;
-use crate::sections::HEADER_WORDS;
 use crate::words::bytes_of;
 
-pub(super) fn plain_bytes(rng: &mut Rng) -> Case {
+pub(super) fn plain_bytes(rng: &mut Rng, edition: Edition) -> Case {
     let patch_length = rng.pick(&[0, 1, 20, 1000]);
     let patch = any_bytes(rng, patch_length);
     let job = match rng.below(6) {
@@ -20,18 +19,18 @@ pub(super) fn plain_bytes(rng: &mut Rng) -> Case {
             let length = rng.index(4000);
             any_bytes(rng, length)
         }
-        // Edition 1 and any words.
+        // The edition and any words.
         2 => {
-            let mut job = bytes_of(&[1]);
+            let mut job = bytes_of(&[edition.number()]);
             let length = 4 * rng.index(60);
             job.extend(any_bytes(rng, length));
             job
         }
         // A sound header and any words, or small ones, as many as are due.
         3 | 4 => {
-            let mut words = sound_job(rng).words();
+            let mut words = sound_job(rng, edition).words();
             let small = rng.one_in(2);
-            for word in &mut words[HEADER_WORDS..] {
+            for word in &mut words[edition.header_words()..] {
                 *word = if small {
                     rng.between(0, 2) as i32
                 } else {
@@ -42,7 +41,7 @@ pub(super) fn plain_bytes(rng: &mut Rng) -> Case {
         }
         // A sound job with a few bytes changed.
         _ => {
-            let mut job = sound_job(rng).bytes();
+            let mut job = sound_job(rng, edition).bytes();
             for _ in 0..rng.between(1, 4) {
                 let at = rng.index(job.len());
                 job[at] = rng.number() as u8;

@@ -1,13 +1,14 @@
 //! Makes faults in a job's words: a word outside its limits, or words too few
 //! or too many.
 
-use crate::generator::draws::{first_last_or_any, outside};
-use crate::generator::line::LONGEST_LINE;
+use super::draws::{first_last_or_any, outside};
+use super::line::LONGEST_LINE;
+use crate::edition::Edition;
+use crate::refusals::later_header_word_limits;
 use crate::rng::Rng;
-use crate::sections::{
-    self, Sections, HEADER_WORDS, WORDS_PER_EFFECT, WORDS_PER_RECORD, WORDS_PER_ROW,
-};
+use crate::sections::{self, Sections, WORDS_PER_EFFECT, WORDS_PER_RECORD, WORDS_PER_ROW};
 
+/// Spoils a word of edition 1's effects, rows or records.
 pub(super) fn spoil_a_factor_word(rng: &mut Rng, words: &mut [i32], sections: &Sections) {
     let (effects, records) = (words[sections::EFFECTS], words[sections::RECORDS]);
     let section = rng.pick(&[&sections.effects, &sections.rows, &sections.records]);
@@ -49,10 +50,11 @@ pub(super) fn spoil_an_ordinate(rng: &mut Rng, words: &mut [i32], sections: &Sec
 }
 
 /// Words too few or too many, or a header that calls for others.
-pub(super) fn spoil_the_count(rng: &mut Rng, words: &mut Vec<i32>) {
+pub(super) fn spoil_the_count(rng: &mut Rng, words: &mut Vec<i32>, edition: Edition) {
     match rng.below(3) {
         0 => {
-            let fewer = HEADER_WORDS + rng.index(words.len() - HEADER_WORDS);
+            let header = edition.header_words();
+            let fewer = header + rng.index(words.len() - header);
             let one_fewer = words.len() - 1;
             words.truncate(rng.pick(&[fewer, one_fewer, one_fewer]));
         }
@@ -61,21 +63,30 @@ pub(super) fn spoil_the_count(rng: &mut Rng, words: &mut Vec<i32>) {
             words.extend((0..more).map(|_| rng.between(-3, 3) as i32));
         }
         _ => {
-            let (place, from, to) = rng.pick(&[
-                (sections::PIECES, 1, 20),
-                (sections::SPACING, 10, 50),
-                (sections::WIDTH, 300, 2079),
-                (sections::EFFECTS, 0, 16),
-                (sections::ROWS, 1, 32),
-                (sections::RECORDS, 0, 512),
-            ]);
+            let (place, from, to) = rng.pick(counting_words(edition));
             words[place] = rng.between(from, to) as i32;
         }
     }
 }
 
-pub(super) fn spoil_a_header_word(rng: &mut Rng, words: &mut [i32]) {
-    let place = 1 + rng.index(HEADER_WORDS - 1);
+/// Header words that the count due rests on, with what to put there. A farm job's
+/// width has its band, so it is left.
+fn counting_words(edition: Edition) -> &'static [(usize, i64, i64)] {
+    match edition {
+        Edition::One => &[
+            (sections::PIECES, 1, 20),
+            (sections::SPACING, 10, 50),
+            (sections::WIDTH, 300, 2079),
+            (sections::EFFECTS, 0, 16),
+            (sections::ROWS, 1, 32),
+            (sections::RECORDS, 0, 512),
+        ],
+        Edition::Four => &[(sections::PIECES, 1, 20), (sections::SPACING, 10, 50)],
+    }
+}
+
+pub(super) fn spoil_a_header_word(rng: &mut Rng, words: &mut [i32], edition: Edition) {
+    let place = 1 + rng.index(edition.header_words() - 1);
     words[place] = match place {
         sections::PIECE_LENGTH => rng.pick(&[0, -1, 3, 4, 6, 24, 26, 49, 51, i32::MIN, i32::MAX]),
         sections::PIECES => {
@@ -91,8 +102,25 @@ pub(super) fn spoil_a_header_word(rng: &mut Rng, words: &mut [i32]) {
             2 => outside(rng, 0, 0),
             _ => outside(rng, 0, 5000),
         },
-        sections::EFFECTS => outside(rng, 0, 16),
-        sections::ROWS => outside(rng, 1, 32),
-        _ => outside(rng, 0, 512),
+        _ => outside_later_limits(rng, place, edition),
     };
+}
+
+/// What spoils a header word from the number of effects on: in a farm job often
+/// one that edition 1 has there, or -1 for the barriers.
+fn outside_later_limits(rng: &mut Rng, place: usize, edition: Edition) -> i32 {
+    let limits = later_header_word_limits(place, edition);
+    let outside = outside(rng, *limits.start(), *limits.end());
+    if edition == Edition::One {
+        return outside;
+    }
+    let of_edition_1 = later_header_word_limits(place, Edition::One);
+    let (from, to) = (*of_edition_1.start(), *of_edition_1.end());
+    let any = rng.between(from.into(), to.into()) as i32;
+    let tried = rng.pick(&[outside, outside, any, from, -1]);
+    if limits.contains(&tried) {
+        outside
+    } else {
+        tried
+    }
 }

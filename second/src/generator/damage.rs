@@ -1,0 +1,119 @@
+//! Makes damaged jobs: a sound job with faults, each meant for one of the
+//! refusals.
+
+use super::draws::sufficient_patch;
+use super::edition_1::{name_an_effect_twice, return_to_a_record};
+use super::edition_4::{spoil_an_effect_word, take_a_width_outside, widen_to_no_band};
+use super::line::give_a_piece_two_signs;
+use super::word_faults::{
+    spoil_a_factor_word, spoil_a_header_word, spoil_an_ordinate, spoil_the_count,
+};
+use super::{sound_job, Case};
+use crate::edition::Edition;
+use crate::job::Job;
+use crate::rng::Rng;
+use crate::sections::Sections;
+use crate::words::{bytes_of, WORD_BYTES};
+
+/// The refusals that a job of an edition can meet.
+pub fn faults_of(edition: Edition) -> &'static [u64] {
+    match edition {
+        Edition::One => &[1, 2, 3, 4, 5, 6, 7, 8, 9],
+        Edition::Four => &[1, 2, 11, 3, 4, 5, 6, 9],
+    }
+}
+
+/// A sound job with one to four faults, each meant for a refusal. With several
+/// faults one may undo or hide another; the first refusal counts anyway.
+pub(super) fn damaged_case(rng: &mut Rng, edition: Edition) -> Case {
+    let count = rng.pick(&[1, 1, 1, 2, 3, 4]);
+    let mut faults = faults_of(edition).to_vec();
+    rng.shuffle(&mut faults);
+    faults.truncate(count);
+    damaged(rng, edition, &faults)
+}
+
+/// A sound job with a fault for each of these refusals.
+pub fn damaged(rng: &mut Rng, edition: Edition, faults: &[u64]) -> Case {
+    let mut job = sound_job(rng, edition);
+    let pieces = job.pieces.len();
+    let mut patch = sufficient_patch(rng, pieces);
+    damage_job(rng, &mut job, faults);
+    let mut words = job.words();
+    let sections = Sections::called_for_by(&words);
+    if faults.contains(&6) {
+        match edition {
+            Edition::One => spoil_a_factor_word(rng, &mut words, &sections),
+            Edition::Four => spoil_an_effect_word(rng, &mut words, &sections),
+        }
+    }
+    if faults.contains(&5) {
+        give_a_piece_two_signs(rng, &mut words[sections.line.clone()]);
+    }
+    if faults.contains(&4) {
+        spoil_an_ordinate(rng, &mut words, &sections);
+    }
+    if faults.contains(&3) {
+        spoil_the_count(rng, &mut words, edition);
+    }
+    if faults.contains(&11) && rng.one_in(3) {
+        widen_to_no_band(rng, &mut words);
+    }
+    if faults.contains(&2) {
+        spoil_a_header_word(rng, &mut words, edition);
+    }
+    let mut bytes = bytes_of(&words);
+    if faults.contains(&1) {
+        make_no_job(rng, &mut bytes, edition);
+    }
+    if faults.contains(&9) {
+        let shorter = rng.index(pieces);
+        let length = rng.pick(&[0, pieces - 1, shorter]);
+        patch.truncate(length);
+    }
+    Case { job: bytes, patch }
+}
+
+/// The faults that are easier made before the job is words.
+fn damage_job(rng: &mut Rng, job: &mut Job, faults: &[u64]) {
+    if faults.contains(&8) {
+        name_an_effect_twice(rng, job);
+    }
+    if faults.contains(&7) {
+        return_to_a_record(rng, job);
+    }
+    if faults.contains(&11) {
+        take_a_width_outside(rng, job);
+    }
+}
+
+/// Too few bytes for the header, a byte count that 4 does not divide, or an
+/// edition that is not admitted.
+fn make_no_job(rng: &mut Rng, bytes: &mut Vec<u8>, edition: Edition) {
+    match rng.below(3) {
+        0 => bytes.truncate(too_few_bytes(rng, edition)),
+        1 => {
+            let uneven = bytes.len() - rng.between(1, 3) as usize;
+            bytes.truncate(uneven);
+        }
+        _ => {
+            let any = rng.number() as i32;
+            let number = match edition {
+                Edition::One => rng.pick(&[0, 2, -1, 256, i32::MIN, any]),
+                Edition::Four => rng.pick(&[0, 2, 3, 5, -4, 260, i32::MIN, any]),
+            };
+            bytes[..WORD_BYTES].copy_from_slice(&number.to_le_bytes());
+        }
+    }
+}
+
+/// Fewer bytes than the edition's header has.
+fn too_few_bytes(rng: &mut Rng, edition: Edition) -> usize {
+    let header = edition.header_words() * WORD_BYTES;
+    let any = rng.index(header);
+    match edition {
+        Edition::One => any,
+        // Often one word short, as a header of edition 1 would be.
+        Edition::Four => rng.pick(&[any, 40, 41, 42, 43]),
+    }
+}

@@ -1,0 +1,410 @@
+//! Edition 4's stream reaches every refusal, by every cause and kind of place,
+//! every built-in row in every question, and every shape of farm job.
+
+use second::account::{Account, Governing};
+use second::combination::Part;
+use second::farm;
+use second::generator::{case, damaged, faults_of, Case, Edition};
+use second::job::Job;
+use second::line::patch_byte;
+use second::loads::Question;
+use second::rng::Rng;
+use second::sections::Sections;
+use second::words::words_of;
+use second::{chosen, solve, store, Answer};
+use std::collections::BTreeSet;
+use std::ops::Range;
+
+const CASES: u64 = 20_000;
+
+/// What is worth reaching about a case.
+fn labels(case: &Case, answer: &Answer) -> Vec<String> {
+    if answer.refusal != 0 {
+        return refusal_labels(case, answer);
+    }
+    let job = Job::decode(&words_of(&case.job));
+    if job.edition != Edition::Four {
+        return vec![];
+    }
+    let mut labels = job_labels(&job);
+    labels.extend(outcome_labels(&job, &answer.account));
+    labels
+}
+
+fn refusal_labels(case: &Case, answer: &Answer) -> Vec<String> {
+    let words = words_of(&case.job);
+    let (number, place) = (answer.refusal, answer.place as usize);
+    let mut labels = match number {
+        1 => not_a_job_labels(case, &words),
+        2 => header_labels(&words, place),
+        11 => width_labels(&words),
+        3 if words.len() < place => vec!["too few".into()],
+        3 => vec!["too many".into()],
+        6 => effect_labels(&words, place),
+        9 => vec!["a short patch buffer".into()],
+        _ => ordinate_labels(&words, place),
+    };
+    let patch_is_short = || case.patch.len() < words[2] as usize;
+    if number != 1 && number != 9 && (1..=1000).contains(&words[2]) && patch_is_short() {
+        labels.push("before 9".into());
+    }
+    let numbered = |label: String| format!("{number}: {label}");
+    labels.into_iter().map(numbered).collect()
+}
+
+fn not_a_job_labels(case: &Case, words: &[i32]) -> Vec<String> {
+    let bytes = case.job.len();
+    let label = match words.first() {
+        None => "no word 0".into(),
+        Some(4) if bytes < 44 => format!("{bytes} bytes"),
+        _ if !bytes.is_multiple_of(4) => "uneven".into(),
+        Some(edition @ (0 | 2 | 3 | 5 | -4)) => format!("edition {edition}"),
+        _ => "another edition".into(),
+    };
+    vec![label]
+}
+
+fn header_labels(words: &[i32], place: usize) -> Vec<String> {
+    if words[0] != 4 {
+        return vec!["in edition 1".into()];
+    }
+    let word = words[place];
+    let mut labels = vec![format!("word {place}"), format!("word {place} is {word}")];
+    if word.unsigned_abs() > 1_000_000 {
+        labels.push(format!("word {place} is far off"));
+    }
+    if place == 10 && !(300..=430).contains(&words[4]) {
+        labels.push("before 11".into());
+    }
+    labels
+}
+
+/// The width with its barriers, and what is at fault besides.
+fn width_labels(words: &[i32]) -> Vec<String> {
+    let mut labels = vec![format!("W {}, barriers {}", words[4], words[10])];
+    let sections = Sections::called_for_by(words);
+    if words.len() == sections.words_due() {
+        let faults = later_faults(words, &sections);
+        labels.extend(faults.iter().map(|later| format!("before {later}")));
+    } else {
+        labels.push("before 3".into());
+    }
+    labels
+}
+
+/// Whether 4, 5 and 6 apply.
+fn later_faults(words: &[i32], sections: &Sections) -> Vec<u64> {
+    let section = |section: &Range<usize>| words[section.clone()].iter().map(|&w| i64::from(w));
+    let line: Vec<i64> = section(&sections.line).collect();
+    let effects: Vec<i64> = section(&sections.effects).collect();
+    let too_far = line.iter().any(|word| word.abs() > 5000)
+        || section(&sections.transverse).any(|word| word.abs() > 1000);
+    let crossing = line.chunks(2).any(|piece| piece[0] * piece[1] < 0);
+    let wrong_effect = effects
+        .chunks(2)
+        .enumerate()
+        .any(|(at, effect)| effect[1] != 1 + i64::from(at >= 3) || effect[0].abs() > 1_000_000_000);
+    let faults = [(4, too_far), (5, crossing), (6, wrong_effect)];
+    let applying = faults.into_iter().filter(|(_, applies)| *applies);
+    applying.map(|(number, _)| number).collect()
+}
+
+fn effect_labels(words: &[i32], place: usize) -> Vec<String> {
+    let within = place - Sections::called_for_by(words).effects.start;
+    let (effect, word) = (within / 2 + 1, words[place]);
+    match within % 2 {
+        0 => vec![format!("value of effect {effect}"), format!("value {word}")],
+        _ => vec![format!("mark {word} of effect {effect}")],
+    }
+}
+
+fn ordinate_labels(words: &[i32], place: usize) -> Vec<String> {
+    let sections = Sections::called_for_by(words);
+    let in_line = sections.line.contains(&place);
+    vec![if in_line {
+        "a piece"
+    } else {
+        "a transverse ordinate"
+    }
+    .into()]
+}
+
+fn job_labels(job: &Job) -> Vec<String> {
+    let barriers = job.further_header[0];
+    let mut labels = vec![
+        format!("h {}", job.piece_length),
+        format!("dynamic kind {}", job.dynamic_kind),
+    ];
+    match job.width {
+        300 | 370 | 430 => labels.push(format!("W {}, barriers {barriers}", job.width)),
+        _ => labels.push(format!("W between, barriers {barriers}")),
+    }
+    let mut reached = |holds: bool, label: &str| {
+        if holds {
+            labels.push(label.into());
+        }
+    };
+    let bytes: BTreeSet<u8> = job.pieces.iter().map(patch_byte).collect();
+    reached(bytes == [0].into(), "zero line");
+    reached(bytes == [1].into(), "line above 0");
+    reached(bytes == [2].into(), "line below 0");
+    reached(
+        bytes.contains(&1) && bytes.contains(&2),
+        "line of both signs",
+    );
+    let longest = job.pieces.len() as i64 * job.piece_length == 1000;
+    let level = |ordinate: i64| {
+        let mut pieces = job.pieces.iter();
+        pieces.all(|piece| piece.left == ordinate && piece.right == ordinate)
+    };
+    for (ordinate, name) in [(5000, "above"), (-5000, "below")] {
+        reached(
+            longest && level(ordinate),
+            &format!("longest line far {name} 0"),
+        );
+    }
+    for most in [1_000_000_000, -1_000_000_000] {
+        let all = job.effects.iter().all(|effect| effect.value == most);
+        reached(all, &format!("all effects {most}"));
+        for (number, effect) in (1..).zip(&job.effects) {
+            reached(effect.value == most, &format!("effect {number} is {most}"));
+        }
+    }
+    labels
+}
+
+fn outcome_labels(job: &Job, account: &Account) -> Vec<String> {
+    let mut labels = vec![];
+    let states = [("service", account.service), ("ultimate", account.ultimate)];
+    for (name, state) in states {
+        for question in Question::BOTH {
+            let governing = state.governing(question);
+            labels.push(format!("{name} {question:?}: row {}", governing.row));
+            labels.push(format!("{name} {question:?}: k {}", governing.k));
+            if governing.traffic_left_out == 1 {
+                labels.push(format!("{name} {question:?}: traffic left out"));
+            }
+            if is_tied(job, account, governing, question) {
+                labels.push(format!("{name} {question:?}: equal rows"));
+            }
+            if governing.row == 16 && job.effects[0].value == 0 {
+                labels.push(format!("{name} {question:?}: either k"));
+            }
+        }
+    }
+    for (name, traffic) in [
+        ("greatest", account.normal_greatest),
+        ("least", account.normal_least),
+    ] {
+        labels.push(format!("normal {name}: entry {}", traffic.lanes[0].entry));
+        if traffic.value.abs() == 7_127_250_000 {
+            labels.push(format!("the largest normal {name}"));
+        }
+    }
+    labels
+}
+
+/// Whether a later row of the state comes to the same value.
+fn is_tied(job: &Job, account: &Account, governing: &Governing, question: Question) -> bool {
+    let last = if governing.row <= 10 { 10 } else { 20 };
+    let rows = farm::combinations();
+    let mut later = rows[governing.row as usize..last].iter();
+    later.any(|row| {
+        let mut variants = row.variants.iter();
+        variants.any(|variant| {
+            let effects: i64 = variant
+                .parts
+                .iter()
+                .map(|part| unless_it_holds_back(job, part, question))
+                .sum();
+            let live = row
+                .live
+                .map_or(0, |live| account.traffic(live, question).value);
+            effects + row.live_factor * live == governing.value
+        })
+    })
+}
+
+/// What an effect counts in a row; 0 where it is better left out.
+fn unless_it_holds_back(job: &Job, part: &Part, question: Question) -> i64 {
+    let effect = job.effects[part.effect - 1];
+    let counts = part.factor * 1000 * effect.value;
+    if effect.mark == 2 && question.beats(0, counts) {
+        0
+    } else {
+        counts
+    }
+}
+
+fn expected_labels() -> BTreeSet<String> {
+    let mut expected = expected_refusals();
+    expected.extend(expected_faults_of_effects());
+    expected.extend(expected_jobs());
+    expected.extend(expected_outcomes());
+    expected.into_iter().collect()
+}
+
+fn expected_refusals() -> Vec<String> {
+    let mut expected: Vec<String> = [
+        "1: no word 0",
+        "1: uneven",
+        "1: another edition",
+        "2: before 11",
+        "3: too few",
+        "3: too many",
+        "4: a piece",
+        "4: a transverse ordinate",
+        "5: a piece",
+        "9: a short patch buffer",
+    ]
+    .map(String::from)
+    .to_vec();
+    expected.extend((40..44).map(|bytes| format!("1: {bytes} bytes")));
+    expected.extend([0, 2, 3, 5, -4].map(|edition| format!("1: edition {edition}")));
+    expected.extend((1..=10).map(|place| format!("2: word {place}")));
+    for (place, words) in [
+        (4, &[299, 2080][..]),
+        (7, &[10, 12, 0]),
+        (8, &[-1, 1]),
+        (9, &[-1, 1]),
+        (10, &[0, 4, -1]),
+    ] {
+        expected.extend(
+            words
+                .iter()
+                .map(|word| format!("2: word {place} is {word}")),
+        );
+    }
+    expected.extend((7..=10).map(|place| format!("2: word {place} is far off")));
+    for (barriers, widths) in [
+        (1, [371, 430, 431, 2079]),
+        (2, [371, 430, 431, 2079]),
+        (3, [300, 369, 431, 2079]),
+    ] {
+        expected.extend(widths.map(|width| format!("11: W {width}, barriers {barriers}")));
+    }
+    expected.extend([3, 4, 5, 6].map(|later| format!("11: before {later}")));
+    expected.extend([2, 11, 3, 4, 5, 6].map(|number| format!("{number}: before 9")));
+    expected
+}
+
+fn expected_faults_of_effects() -> Vec<String> {
+    let mut expected = vec![];
+    for effect in 1..=11 {
+        let exchanged = if effect <= 3 { 2 } else { 1 };
+        let marks = [0, exchanged, 3];
+        expected.extend(marks.map(|mark| format!("6: mark {mark} of effect {effect}")));
+        expected.push(format!("6: value of effect {effect}"));
+    }
+    let past = [1_000_000_001, -1_000_000_001];
+    expected.extend(past.map(|value| format!("6: value {value}")));
+    expected
+}
+
+fn expected_jobs() -> Vec<String> {
+    let mut expected: Vec<String> = [
+        "zero line",
+        "line above 0",
+        "line below 0",
+        "line of both signs",
+        "longest line far above 0",
+        "longest line far below 0",
+    ]
+    .map(String::from)
+    .to_vec();
+    expected.extend([1, 2, 5, 10, 25, 50].map(|h| format!("h {h}")));
+    expected.extend([1, 2, 3].map(|kind| format!("dynamic kind {kind}")));
+    for (barriers, ends) in [(1, [300, 370]), (2, [300, 370]), (3, [370, 430])] {
+        expected.extend(ends.map(|width| format!("W {width}, barriers {barriers}")));
+        expected.push(format!("W between, barriers {barriers}"));
+    }
+    for most in [1_000_000_000, -1_000_000_000] {
+        expected.push(format!("all effects {most}"));
+        expected.extend((1..=11).map(|effect| format!("effect {effect} is {most}")));
+    }
+    expected
+}
+
+/// Every row, in the questions of its state; every k; ties.
+fn expected_outcomes() -> Vec<String> {
+    let mut expected = vec![];
+    for question in ["Greatest", "Least"] {
+        expected.extend((1..=10).map(|row| format!("service {question}: row {row}")));
+        expected.extend((11..=20).map(|row| format!("ultimate {question}: row {row}")));
+        expected.extend([0, 800, 1300].map(|k| format!("ultimate {question}: k {k}")));
+        expected
+            .extend(["service", "ultimate"].map(|name| format!("{name} {question}: equal rows")));
+        expected.push(format!("ultimate {question}: either k"));
+    }
+    for name in ["greatest", "least"] {
+        expected.extend((0..=2).map(|entry| format!("normal {name}: entry {entry}")));
+        expected.push(format!("the largest normal {name}"));
+    }
+    expected
+}
+
+#[track_caller]
+fn reach_all(cases: impl Iterator<Item = Case>) {
+    let mut reached = BTreeSet::new();
+    for case in cases {
+        let answer = solve(&case.job, &mut case.patch.clone());
+        reached.extend(labels(&case, &answer));
+    }
+    let missed: Vec<_> = expected_labels().difference(&reached).cloned().collect();
+    assert!(missed.is_empty(), "never reached: {missed:#?}");
+}
+
+#[test]
+fn every_refusal_row_and_shape_is_reached() {
+    reach_all((0..CASES).map(|seed| case(Edition::Four, seed)));
+}
+
+#[test]
+fn the_stored_cases_reach_every_refusal_row_and_shape() {
+    let edition = Edition::Four;
+    reach_all(store::generated_cases(edition).chain(chosen::cases(edition)));
+}
+
+/// A single fault gets its own refusal; the count's fault may leave the count as
+/// it was or make the line too long.
+#[test]
+fn a_fault_alone_gives_its_refusal() {
+    for &fault in faults_of(Edition::Four) {
+        let hits = (0..200).filter(|&seed| {
+            let case = damaged(&mut Rng::new(seed), Edition::Four, &[fault]);
+            solve(&case.job, &mut case.patch.clone()).refusal == fault
+        });
+        let least = if fault == 3 { 170 } else { 200 };
+        assert!(hits.count() >= least, "refusal {fault}");
+    }
+}
+
+/// Of two faults the one that is tested first is given: 1, 2, 11, 3, 4, 5, 6, 9.
+#[test]
+fn two_faults_give_the_first_refusal() {
+    let order = [1, 2, 11, 3, 4, 5, 6, 9];
+    assert_eq!(faults_of(Edition::Four), order);
+    for (at, &first) in order.iter().enumerate().filter(|(_, &first)| first != 3) {
+        for &other in &order[at + 1..] {
+            for seed in 0..20 {
+                let case = damaged(&mut Rng::new(seed), Edition::Four, &[first, other]);
+                let answer = solve(&case.job, &mut case.patch.clone());
+                assert_eq!(answer.refusal, first, "{first} and {other}, seed {seed}");
+            }
+        }
+    }
+}
+
+/// A seed's case is fixed: this sum over many cases (FNV-1a) never changes,
+/// whatever other editions bring.
+#[test]
+fn the_cases_of_edition_4_never_change() {
+    let mut sum = 0xcbf2_9ce4_8422_2325_u64;
+    for seed in 0..2000 {
+        let case = case(Edition::Four, seed);
+        for byte in case.job.into_iter().chain(case.patch) {
+            sum = (sum ^ u64::from(byte)).wrapping_mul(0x0000_0100_0000_01B3);
+        }
+    }
+    assert_eq!(sum, 13_955_522_561_190_928_816);
+}
