@@ -131,8 +131,11 @@ static void print_position(const char *name, const struct hnho_position *positio
 }
 
 static void print_governing(const char *state, const char *question, const struct hnho_governing *governing) {
-  printf("%s %s %" PRId64 " row %" PRId64 ", left out %" PRId64 ", traffic %s\n", state, question, governing->value, governing->row,
+  printf("%s %s %" PRId64 " row %" PRId64 ", left out %" PRId64 ", traffic %s", state, question, governing->value, governing->row,
          governing->left_out, governing->unladen ? "left out" : "counts");
+  if (governing->k != 0) /* row 16 of a farm job: the factor of DL in thousandths */
+    printf(", k %" PRId64, governing->k);
+  printf("\n");
 }
 
 static void print_state(const char *name, const struct hnho_state *state) {

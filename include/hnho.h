@@ -1,9 +1,9 @@
 /* hnho.h - the HN-HO-72 load kernel for hosts in C99 or C++.
  *
- * One call takes a job (an influence line, a transverse line, a dynamic factor and a table of load factors, as 32-bit words)
- * to its account (the worst traffic values with a placement that gives each, and the row that governs each limit state),
- * or refuses it with a number and a word place. Another rates a train of axles on an influence line alone. Link with libhnho.a.
- * docs/HOST.md has the five-minute path.
+ * One call takes a job (an influence line, a transverse line, a dynamic factor and a table of load factors, as 32-bit words; a farm
+ * bridge's table is built in) to its account (the worst traffic values with a placement that gives each, and the row that governs
+ * each limit state), or refuses it with a number and a word place. Another rates a train of axles on an influence line alone. Link
+ * with libhnho.a. docs/HOST.md has the five-minute path.
  *
  * The kernel keeps no state, allocates nothing and does no input or output: any number of threads may call it at once,
  * each with its own patch, account and report buffers.
@@ -26,7 +26,7 @@ extern "C" {
 #define HNHO_ACCOUNT_NUMBERS 157
 #define HNHO_LANES 10  /* lanes of a placement */
 #define HNHO_MOST_PATCH_BYTES 1000  /* a patch buffer that is long enough for every job: N is at most 1000 */
-#define HNHO_MOST_JOB_BYTES 15660  /* the longest job that can be accepted: 3915 words */
+#define HNHO_MOST_JOB_BYTES 15660  /* the longest job of any edition that can be accepted: 3915 words */
 #define HNHO_RATING_BYTES 72  /* a train's report: HNHO_RATING_NUMBERS numbers of 8 bytes */
 #define HNHO_RATING_NUMBERS 9
 #define HNHO_MOST_AXLES 12  /* of a train */
@@ -45,7 +45,7 @@ uint32_t hnho_layout(void);
  *
  * account, account_bytes: HNHO_ACCOUNT_BYTES or more. The first HNHO_ACCOUNT_BYTES bytes get the account, zeros on a refusal;
  * bytes past them keep their contents. A shorter buffer is refused with 2 at place 0: all of its bytes are set to 0, the patch
- * buffer keeps its contents and the job is not looked at. (A job's own refusal 2 has a place from 1 to 9.)
+ * buffer keeps its contents and the job is not looked at. (A job's own refusal 2 has a place from 1 to 10.)
  *
  * Result: 0 for acceptance, else 256 times the place plus the refusal's number; hnho_refusal and hnho_place take it apart.
  *
@@ -94,13 +94,14 @@ enum hnho_train_mode {
 uint64_t hnho_train(size_t h, size_t pieces, const uint8_t *line, size_t line_bytes, const struct hnho_axle *train, size_t axles,
                     size_t mode, uint8_t *report, size_t report_bytes);
 
-/* Refusals, each with its place: a word of the job, counted from 0, where nothing else is said. The lowest number that applies is
- * given, with its lowest place. hnho_refusal_text says what is wrong and who mends it.
+/* Refusals, each with its place: a word of the job, counted from 0, where nothing else is said. A short account or report buffer is
+ * told first, as 2 at place 0. Then the tests run in rising number, but 11 straight after 2; the first that applies is given, with
+ * its lowest place. hnho_refusal_text says what is wrong and who mends it.
  */
 enum hnho_refusal_number {
   HNHO_ACCEPTED = 0,
   HNHO_NOT_A_JOB = 1,       /* 0 */
-  HNHO_HEADER_LIMIT = 2,    /* the word, 1 to 9 (N times h over 1000 counts at 2); 0 for a short buffer, and in hnho_train */
+  HNHO_HEADER_LIMIT = 2,    /* the word, 1 to 10 (N times h over 1000 counts at 2); 0 for a short buffer, and in hnho_train */
   HNHO_WORD_COUNT = 3,      /* the number of words due */
   HNHO_ORDINATE_LIMIT = 4,  /* the word */
   HNHO_PIECE_CROSSES = 5,   /* the piece's left ordinate */
@@ -108,23 +109,35 @@ enum hnho_refusal_number {
   HNHO_CHAIN_RETURNS = 7,   /* the row's first word */
   HNHO_EFFECT_TWICE = 8,    /* the row's first word */
   HNHO_PATCH_SHORT = 9,     /* N */
-  HNHO_TRAIN_LIMIT = 10     /* the first axle at fault, counted from 1; 0 for the number of axles */
+  HNHO_TRAIN_LIMIT = 10,    /* the first axle at fault, counted from 1; 0 for the number of axles */
+  HNHO_WIDTH_BAND = 11      /* 4: a farm bridge's clear width outside its barriers' band; tested after 2 and before 3 */
+};
+
+/* The edition of a job. */
+enum hnho_edition { HNHO_EDITION_HIGHWAY = 1, HNHO_EDITION_RURAL = 4 };
+
+/* The barriers of a farm bridge, with the clear widths in cm that go with each, both ends allowed. */
+enum hnho_barriers {
+  HNHO_BARRIERS_NONE = 1,        /* 300 to 370 */
+  HNHO_BARRIERS_PEDESTRIAN = 2,  /* 300 to 370 */
+  HNHO_BARRIERS_TRAFFIC = 3      /* 370 to 430 */
 };
 
 /* The words of a job, by place.
  *
- *   0  edition, 1
+ *   0  edition: 1, or 4 for a farm bridge
  *   1  h, piece length in dm: 1, 2, 5, 10, 25 or 50
  *   2  N, pieces: 1 to 1000, N times h at most 1000
  *   3  g, spacing of the transverse ordinates in cm: 10 to 50
  *   4  W, carriageway width in cm: 300 to 2079
  *   5  dynamic kind, 6 its value: kind 1 with 1000 to 1300 (thousandths); kind 2 (below ground) with 0; kind 3 (culvert top slab)
  *      with the fill in cm, 0 to 5000
- *   7  E, effects: 0 to 16
- *   8  R, rows: 1 to 32
- *   9  C, chain records: 0 to 512
+ *   7  E, effects: 0 to 16; 11 in edition 4
+ *   8  R, rows: 1 to 32; 0 in edition 4
+ *   9  C, chain records: 0 to 512; 0 in edition 4
+ *  10  edition 4 alone: of enum hnho_barriers. W is then the clear width and within the barriers' band, else refusal 11
  *
- * From word 10 on, one section after the other:
+ * After the header, from word 10 on, in edition 4 from word 11 on, one section after the other:
  *   2 N    ordinates of the influence line, a left and a right one a piece: -5000 to 5000, in a unit U of the sender's
  *   M + 1  transverse ordinates, M = W / g rounded up: -1000 to 1000 in thousandths, the first at the left kerb
  *   2 E    effects: value in kN.U, -1000000000 to 1000000000; 1 always present, 2 may be left out
@@ -132,6 +145,10 @@ enum hnho_refusal_number {
  *          0 to C, 0 for none
  *   3 C    records: effect 1 to E; factor 0 to 3000; next record, 0 to C, 0 for the end of the chain
  * Factors are thousandths. Effects, rows and records count from 1.
+ *
+ * Edition 4 has no rows and no records: rows 1 to 20 are built in, docs/HOST.md lists them. Its effects are DL, EP, OW, SG, ST, TP,
+ * HE, WD, FW, EQ and CN, in this order, the first three marked 1 and the others 2, else refusal 6 at the mark. It has one lane and 0.85 HN, and no HO: overload's
+ * values are 0 and its placements unloaded.
  */
 enum hnho_word_place {
   HNHO_WORD_EDITION = 0,
@@ -144,7 +161,9 @@ enum hnho_word_place {
   HNHO_WORD_E = 7,
   HNHO_WORD_R = 8,
   HNHO_WORD_C = 9,
-  HNHO_HEADER_WORDS = 10
+  HNHO_WORD_BARRIERS = 10,     /* in edition 4 */
+  HNHO_HEADER_WORDS = 10,      /* of edition 1 */
+  HNHO_RURAL_HEADER_WORDS = 11  /* of edition 4 */
 };
 
 /* Bytes of the patch buffer. */
@@ -184,7 +203,7 @@ struct hnho_governing {
   int64_t row;       /* from 1; the lowest at a tie */
   int64_t left_out;  /* a bit an effect, effect 1 the lowest; 1 where the effect is left out */
   int64_t unladen;   /* 1 where the traffic is left out, else 0 */
-  int64_t k;         /* reserved, 0 */
+  int64_t k;         /* where row 16 of a farm job governs, the factor of DL in thousandths, 1300 or 800 (either where both give it); else 0 */
 };
 
 /* A limit state. */
@@ -324,7 +343,8 @@ static inline const char *hnho_refusal_text(int number) {
   case HNHO_ACCEPTED:
     return "accepted";
   case HNHO_NOT_A_JOB:
-    return "under 10 words, a byte count that 4 does not divide, or word 0 is not 1; mended by whoever packs the job";
+    return "under 10 words, in edition 4 under 11, a byte count that 4 does not divide, or word 0 is neither 1 nor 4; mended by "
+           "whoever packs the job";
   case HNHO_HEADER_LIMIT:
     return "a header word outside its limits; mended by whoever packs the job (at place 0 a short account or report buffer, or "
            "h, N, the section's length or the mode of a train's call outside its limits; mended by the host)";
@@ -344,6 +364,8 @@ static inline const char *hnho_refusal_text(int number) {
     return "the patch buffer has fewer bytes than the line has pieces; mended by the host";
   case HNHO_TRAIN_LIMIT:
     return "the number of axles, or an axle's load or distance, outside its limits; mended by whoever gives the train";
+  case HNHO_WIDTH_BAND:
+    return "a farm bridge's clear width outside its barriers' band; mended by whoever packs the job";
   default:
     return "no refusal of this kernel";
   }

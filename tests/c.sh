@@ -98,6 +98,12 @@ for example in host truck; do
     "target/c/other/$example" "${arguments[@]}"
 done
 
+step 'the page of the farm job' page examples/farm-job.expected target/c/host examples/farm-job.bin
+
+# the farm job with W 369, too narrow for traffic barriers
+{ head -c 16 examples/farm-job.bin; printf '\161\1\0\0'; tail -c +21 examples/farm-job.bin; } >target/c/narrow.bin
+step 'a farm job too narrow' fails 1 "refused 11 at 4: a farm bridge's clear width outside its barriers' band; mended by whoever packs \
+the job" target/c/host target/c/narrow.bin
 head -c 336 examples/job-a.bin >target/c/short.bin
 step 'a refused job' fails 1 'refused 3 at 85: not the number of words that the header calls for; mended by whoever packs the job' \
   target/c/host target/c/short.bin
@@ -143,5 +149,6 @@ for compiler in 'gcc -std=c99' 'g++ -x c++ -std=c++98' 'g++ -x c++ -std=c++20'; 
     step "$example by $compiler and pkg-config" outside "$away" "$example" $compiler
     step "the page of $example by $compiler and pkg-config" page "examples/$example.expected" "$away/$example" "${arguments[@]}"
   done
+  step "the page of the farm job by $compiler and pkg-config" page examples/farm-job.expected "$away/host" examples/farm-job.bin
 done
 printf 'c.sh: the header, the example hosts, the edges, the stored cases and the installation are as due\n'

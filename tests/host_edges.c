@@ -1,5 +1,6 @@
 /* The edges of hnho_solve: null pointers, odd lengths, short, exact and long buffers, one refusal of each number; every number of
- * Job A's account; and the header's own functions. Expected numbers are document 01's or worked out from it by hand.
+ * Job A's account and of a farm job's; the limits of edition 4; and the header's own functions. Expected numbers are the documents'
+ * or worked out from them by hand.
  * Every buffer has guard bytes on both sides; every byte that must keep its contents is looked at.
  *
  *   host_edges JOB-A
@@ -17,7 +18,11 @@ enum {
   TRANSVERSE_AT = 50, /* the first word of each section of Job A */
   EFFECTS_AT = 69,
   ROWS_AT = 71,
-  RECORDS_AT = 79
+  RECORDS_AT = 79,
+  FARM_WORDS = 42, /* of the farm job at W 300 */
+  FARM_MOST_WORDS = 78, /* at W 2080 */
+  FARM_LINE_AT = 11,
+  FARM_EFFECTS = 11
 };
 
 /* Job A, as it was read. */
@@ -120,6 +125,47 @@ static void expect_job_a(struct buffer patch, struct buffer account) {
   expect(a.records_walked == 0, "records walked");
 }
 
+/* A governing value of the farm job. None of the effects that its row may leave out is 0, so those left out are known. */
+static void expect_governing(struct hnho_governing g, int64_t value, int64_t row, int64_t left_out, int64_t k, const char *what) {
+  expect(g.value == value && g.row == row, what);
+  expect(g.left_out == left_out, what);
+  expect(g.k == k, what);
+}
+
+/* The account of the farm job that pack_farm packs, at any lawful width, its patch bytes, and everything past them as before. The
+ * line has both ordinates 8 on its one piece of 5 m, all transverse ordinates are 1000 and the dynamic factor is 1: HN is
+ * 7 * 50 * 16 + 1600 * 8 = 18400, for only one axle is on, and 18400 * 1000 * 20 * 1000 * 3 / 800000 * 17 / 20 = 1173000 N.U. In
+ * kN.U, with DL 1000, SG 4, ST 5, TP 100, EQ 5000 and the others 0:
+ *   service greatest: 3A (row 6), 1000 + 4 + 5 + 5000 + 33; service least: 1000 in every row, so row 1's, without SG and ST
+ *   ultimate greatest: 3A (row 16), 1300 + 4 + 5 + 5000 + 33; ultimate least: 3A, 800, without SG, ST, TP and EQ */
+static void expect_farm_job(struct buffer patch, struct buffer account) {
+  struct hnho_account a;
+  size_t number;
+  expect(all_are(patch.bytes, 0, 1, HNHO_PATCH_RAISING), "the patch byte is not the farm job's");
+  expect(all_are(patch.bytes, 1, patch.n, OLD_PATCH), "bytes past N changed");
+  expect(all_are(account.bytes, HNHO_ACCOUNT_BYTES, account.n, OLD_ACCOUNT), "bytes past the account changed");
+  hnho_read_account(account.bytes, &a);
+  expect(a.normal_greatest == 1173000 && a.normal_least == 0, "the normal values");
+  expect(a.normal_greatest_placement.set == 1 && a.normal_greatest_placement.lane[0].entry == HNHO_HN_RAISING, "normal's placement");
+  expect(a.normal_greatest_placement.lane[0].centre >= 150 && a.normal_greatest_placement.lane[0].centre <= 430 - 150, "its centre");
+  expect(a.normal_greatest_placement.lane[0].factor == 0, "its factor");
+  expect_unloaded_from(&a.normal_greatest_placement, 1, "normal's placement");
+  expect(a.overload_greatest == 0 && a.overload_least == 0, "the overload values");
+  for (number = HNHO_OVERLOAD_GREATEST_PLACEMENT; number < HNHO_SERVICE; number++)
+    expect(hnho_number(account.bytes, number) == 0, "an overload placement is not zero throughout");
+  expect(a.service.reported == 1 && a.ultimate.reported == 1, "a state");
+  expect_governing(a.service.greatest, INT64_C(6042000000), 6, 0, 0, "service greatest");
+  expect_governing(a.service.least, INT64_C(1000000000), 1, 8 + 16, 0, "service least");
+  expect_governing(a.ultimate.greatest, INT64_C(6342000000), 16, 0, 1300, "ultimate greatest");
+  expect_governing(a.ultimate.least, INT64_C(800000000), 16, 8 + 16 + 32 + 512, 800, "ultimate least");
+  expect(a.service.greatest.unladen == 0, "a row without traffic");
+  expect(a.ultimate.greatest.unladen == 0 && a.ultimate.least.unladen == 0, "a row without traffic");
+  expect(a.first_lanes == 1 && a.second_lanes == 0 && a.records_walked == 0, "lanes and records");
+}
+
+/* What an accepted job's buffers are held to. */
+static void (*expect_accepted)(struct buffer patch, struct buffer account) = expect_job_a;
+
 /* Calls the kernel on buffers of its own and looks at every byte: the first `bytes` bytes of a job, `null` for null pointers
  * where a length is 0. */
 static void call(const uint8_t *words, size_t bytes, size_t patch_bytes, size_t account_bytes, int null, int number, uint64_t place) {
@@ -133,7 +179,7 @@ static void call(const uint8_t *words, size_t bytes, size_t patch_bytes, size_t 
   expect_result(result, number, place);
   expect(bytes == 0 || memcmp(job.bytes, words, bytes) == 0, "the job changed");
   if (result == 0)
-    expect_job_a(patch, account);
+    expect_accepted(patch, account);
   else
     expect_cleared(patch, account);
   take_back(job, "a byte beside the job changed");
@@ -210,6 +256,7 @@ static void patch_lengths(void) {
 static void refusals(void) {
   size_t word;
   call_changed("edition 2", HNHO_WORD_EDITION, 2, HNHO_NOT_A_JOB, 0);
+  call_changed("Job A as edition 4", HNHO_WORD_EDITION, HNHO_EDITION_RURAL, HNHO_HEADER_LIMIT, HNHO_WORD_E);
   for (word = 1; word < HNHO_HEADER_WORDS; word++)
     call_changed("a header word of -1", word, -1, HNHO_HEADER_LIMIT, word);
   call_changed("N times h over 1000", HNHO_WORD_N, 101, HNHO_HEADER_LIMIT, HNHO_WORD_N);
@@ -237,6 +284,123 @@ static void wide_ordinates(void) {
     call_changed("a wide word, a transverse ordinate", TRANSVERSE_AT + 9, wide[i], HNHO_ORDINATE_LIMIT, TRANSVERSE_AT + 9);
     call_changed("a wide word, the last transverse ordinate", TRANSVERSE_AT + 18, wide[i], HNHO_ORDINATE_LIMIT, TRANSVERSE_AT + 18);
   }
+}
+
+/* Packs the farm job of expect_farm_job with this width and barriers; its words. */
+static size_t pack_farm(uint8_t *job, int32_t width, int32_t barriers) {
+  static const int32_t effects[FARM_EFFECTS] = {1000, 0, 0, 4, 5, 100, 0, 0, 0, 5000, 0};
+  const int32_t header[HNHO_RURAL_HEADER_WORDS] = {HNHO_EDITION_RURAL, 50, 1, 50, width, 2, 0, FARM_EFFECTS, 0, 0, barriers};
+  size_t words = 0;
+  int32_t i;
+  for (i = 0; i < HNHO_RURAL_HEADER_WORDS; i++)
+    hnho_put_word(job, words++, header[i]);
+  for (i = 0; i < 2; i++)
+    hnho_put_word(job, words++, 8);
+  for (i = 0; i < (width + 49) / 50 + 1; i++)
+    hnho_put_word(job, words++, 1000);
+  for (i = 0; i < FARM_EFFECTS; i++) {
+    hnho_put_word(job, words++, effects[i]);
+    hnho_put_word(job, words++, i < 3 ? 1 : 2);
+  }
+  return words;
+}
+
+/* The farm job at W 300 without barriers, with one word changed. */
+static void call_farm_changed(const char *name, size_t word, int32_t value, int number, uint64_t place) {
+  uint8_t job[4 * FARM_MOST_WORDS];
+  size_t words = pack_farm(job, 300, HNHO_BARRIERS_NONE);
+  step = name;
+  hnho_put_word(job, word, value);
+  call(job, 4 * words, 1, HNHO_ACCOUNT_BYTES, 0, number, place);
+}
+
+/* Each width of note with each barriers: at and next to the ends of the bands, and of word 4's own limits. */
+static void farm_widths(void) {
+  static const struct {
+    int32_t width;
+    int number[3];
+  } due[] = {
+    {299, {HNHO_HEADER_LIMIT, HNHO_HEADER_LIMIT, HNHO_HEADER_LIMIT}},
+    {300, {HNHO_ACCEPTED, HNHO_ACCEPTED, HNHO_WIDTH_BAND}},
+    {369, {HNHO_ACCEPTED, HNHO_ACCEPTED, HNHO_WIDTH_BAND}},
+    {370, {HNHO_ACCEPTED, HNHO_ACCEPTED, HNHO_ACCEPTED}},
+    {371, {HNHO_WIDTH_BAND, HNHO_WIDTH_BAND, HNHO_ACCEPTED}},
+    {430, {HNHO_WIDTH_BAND, HNHO_WIDTH_BAND, HNHO_ACCEPTED}},
+    {431, {HNHO_WIDTH_BAND, HNHO_WIDTH_BAND, HNHO_WIDTH_BAND}},
+    {2079, {HNHO_WIDTH_BAND, HNHO_WIDTH_BAND, HNHO_WIDTH_BAND}},
+    {2080, {HNHO_HEADER_LIMIT, HNHO_HEADER_LIMIT, HNHO_HEADER_LIMIT}}
+  };
+  uint8_t job[4 * FARM_MOST_WORDS];
+  size_t i;
+  int32_t barriers;
+  step = "the width of a farm bridge";
+  for (i = 0; i < sizeof due / sizeof *due; i++)
+    for (barriers = HNHO_BARRIERS_NONE; barriers <= HNHO_BARRIERS_TRAFFIC; barriers++) {
+      size_t words = pack_farm(job, due[i].width, barriers);
+      int number = due[i].number[barriers - 1];
+      call(job, 4 * words, 1, HNHO_ACCOUNT_BYTES, 0, number, number == HNHO_ACCEPTED ? 0 : HNHO_WORD_W);
+    }
+}
+
+/* The front of the farm job: eleven words are due for its header, ten for edition 1's. */
+static void farm_lengths(void) {
+  uint8_t job[4 * FARM_MOST_WORDS];
+  size_t bytes = 4 * pack_farm(job, 300, HNHO_BARRIERS_NONE), n;
+  step = "the front of the farm job";
+  expect(bytes == 4 * FARM_WORDS, "its words");
+  for (n = 0; n < bytes; n++)
+    if (n < 4 * HNHO_RURAL_HEADER_WORDS || n % 4 != 0)
+      call(job, n, 1, HNHO_ACCOUNT_BYTES, 0, HNHO_NOT_A_JOB, 0);
+    else
+      call(job, n, 1, HNHO_ACCOUNT_BYTES, 0, HNHO_WORD_COUNT, FARM_WORDS);
+  step = "the farm job and one word";
+  hnho_put_word(job, FARM_WORDS, 0);
+  call(job, bytes + 4, 1, HNHO_ACCOUNT_BYTES, 0, HNHO_WORD_COUNT, FARM_WORDS);
+  step = "buffers longer than the farm job needs";
+  call(job, bytes, 9, HNHO_ACCOUNT_BYTES + 8, 0, HNHO_ACCEPTED, 0);
+  step = "the farm job without a patch buffer";
+  call(job, bytes, 0, HNHO_ACCOUNT_BYTES, 1, HNHO_PATCH_SHORT, 1);
+  step = "the farm job and a short account buffer";
+  call(job, bytes, 1, HNHO_ACCOUNT_BYTES - 1, 0, HNHO_HEADER_LIMIT, 0);
+}
+
+static void farm_refusals(void) {
+  static const int32_t editions[] = {0, 2, 3, 5, -4, INT32_MIN, INT32_MAX};
+  static const int32_t barriers[] = {0, 4, -1, INT32_MIN, INT32_MAX};
+  const size_t effects_at = FARM_WORDS - 2 * FARM_EFFECTS;
+  size_t i;
+  for (i = 0; i < sizeof editions / sizeof *editions; i++)
+    call_farm_changed("another edition", HNHO_WORD_EDITION, editions[i], HNHO_NOT_A_JOB, 0);
+  call_farm_changed("the farm job as edition 1", HNHO_WORD_EDITION, HNHO_EDITION_HIGHWAY, HNHO_HEADER_LIMIT, HNHO_WORD_R);
+  for (i = 1; i < HNHO_RURAL_HEADER_WORDS; i++)
+    call_farm_changed("a header word of -1", i, -1, HNHO_HEADER_LIMIT, i);
+  call_farm_changed("ten effects", HNHO_WORD_E, 10, HNHO_HEADER_LIMIT, HNHO_WORD_E);
+  call_farm_changed("twelve effects", HNHO_WORD_E, 12, HNHO_HEADER_LIMIT, HNHO_WORD_E);
+  call_farm_changed("a row", HNHO_WORD_R, 1, HNHO_HEADER_LIMIT, HNHO_WORD_R);
+  call_farm_changed("a record", HNHO_WORD_C, 1, HNHO_HEADER_LIMIT, HNHO_WORD_C);
+  for (i = 0; i < sizeof barriers / sizeof *barriers; i++)
+    call_farm_changed("no such barriers", HNHO_WORD_BARRIERS, barriers[i], HNHO_HEADER_LIMIT, HNHO_WORD_BARRIERS);
+  call_farm_changed("a width that calls for more words", HNHO_WORD_W, 431, HNHO_WIDTH_BAND, HNHO_WORD_W);
+  call_farm_changed("a width too narrow", HNHO_WORD_BARRIERS, HNHO_BARRIERS_TRAFFIC, HNHO_WIDTH_BAND, HNHO_WORD_W);
+  call_farm_changed("a piece more than there is", HNHO_WORD_N, 2, HNHO_WORD_COUNT, FARM_WORDS + 2);
+  call_farm_changed("an ordinate of 5001", FARM_LINE_AT, 5001, HNHO_ORDINATE_LIMIT, FARM_LINE_AT);
+  call_farm_changed("a piece that crosses 0", FARM_LINE_AT + 1, -1, HNHO_PIECE_CROSSES, FARM_LINE_AT);
+  for (i = 0; i < FARM_EFFECTS; i++) {
+    size_t value = effects_at + 2 * i;
+    call_farm_changed("the mark of another effect", value + 1, i < 3 ? 2 : 1, HNHO_TABLE_LIMIT, value + 1);
+    call_farm_changed("a mark of 0", value + 1, 0, HNHO_TABLE_LIMIT, value + 1);
+    call_farm_changed("a mark of 3", value + 1, 3, HNHO_TABLE_LIMIT, value + 1);
+    call_farm_changed("an effect of 1000000001", value, 1000000001, HNHO_TABLE_LIMIT, value);
+    call_farm_changed("an effect of -1000000001", value, -1000000001, HNHO_TABLE_LIMIT, value);
+  }
+}
+
+static void farm_jobs(void) {
+  expect_accepted = expect_farm_job;
+  farm_widths();
+  farm_lengths();
+  farm_refusals();
+  expect_accepted = expect_job_a;
 }
 
 /* The header's reader against numbers of both signs. */
@@ -308,7 +472,7 @@ static void layout(void) {
 static void refusal_texts(void) {
   static const char packs[] = "whoever packs the job", lines[] = "whoever works out the lines", factors[] = "whoever keeps the factors";
   static const char host[] = "the host", train[] = "whoever gives the train";
-  static const char *const mended_by[] = {"", packs, packs, packs, lines, lines, factors, factors, factors, host, train, ""};
+  static const char *const mended_by[] = {"", packs, packs, packs, lines, lines, factors, factors, factors, host, train, packs, ""};
   int texts = (int)(sizeof mended_by / sizeof *mended_by), i, j;
   step = "hnho_refusal_text";
   for (i = 0; i < texts; i++) {
@@ -348,6 +512,7 @@ int main(int argc, char **argv) {
   patch_lengths();
   refusals();
   wide_ordinates();
+  farm_jobs();
   printf("host_edges: %d calls answered as due\n", calls);
   return 0;
 }

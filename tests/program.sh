@@ -55,6 +55,14 @@ rt check hnho >"$dir/rt.log" 2>&1 || { tail -n 20 "$dir/rt.log" >&2; fail 'rt ch
 job=examples/job-a.bin
 text=$(cat crates/hnho/stdout)$'\n'
 run 'Job A' "$text" '' <"$job"
+farm_text='normal greatest 27400547 least 0
+overload greatest 0 least 0
+service greatest 46150547000 row 3 least 15350000000 row 6
+ultimate greatest 69708554839 row 11 least 11587500000 row 16
+'
+run 'the farm job' "$farm_text" '' <examples/farm-job.bin
+run "the farm job's first ten words" $'refused 1 at 0\n' '' < <(head -c 40 examples/farm-job.bin)
+run "the farm job's header" $'refused 3 at 62\n' '' < <(head -c 44 examples/farm-job.bin)
 run 'empty input' $'refused 1 at 0\n' '' </dev/null
 run 'input of 20000 bytes' $'refused 3 at 85\n' '' < <(cat "$job"; head -c 19660 /dev/zero)
 run 'a directory as input' '' $'standard input: Is a directory\n' </

@@ -115,6 +115,7 @@ fn governing(read: &header::Governing) -> Governing {
         row: small(read.row),
         omitted: small(read.left_out),
         traffic_left_out: small(read.unladen),
+        k: small(read.k),
     }
 }
 
@@ -142,10 +143,6 @@ fn check_rest(job: &[u8], refused: bool, read: &header::Account) -> Result<(), S
                 zero(&format!("lane {number}'s centre"), lane.centre)?;
             }
         }
-    }
-    for state in [&read.service, &read.ultimate] {
-        zero("the greatest's k", state.greatest.k)?;
-        zero("the least's k", state.least.k)?;
     }
     Ok(())
 }

@@ -1,7 +1,7 @@
 //! The kernel agrees with the second implementation on generated jobs, and no drawn arrangement beats a report.
 
 use random::{asked, call, judged, solve, ACCOUNT_BYTES};
-use second::generator::{case, Case, Edition};
+use second::generator::{case, faults_of, Case, Edition};
 use second::job::Job;
 use second::words::words_of;
 use second::{chosen, sampler};
@@ -13,21 +13,31 @@ fn agreed_refusal(case: &Case) -> Result<u64, String> {
 
 #[test]
 fn kernel_and_second_implementation_agree_on_chosen_cases() {
-    for (number, case) in chosen::cases().enumerate() {
-        if let Err(fault) = agreed_refusal(&case) {
-            panic!("chosen case {number}: {fault}");
+    for edition in Edition::ALL {
+        for (number, case) in chosen::cases(edition).enumerate() {
+            if let Err(fault) = agreed_refusal(&case) {
+                panic!("{edition:?}, chosen case {number}: {fault}");
+            }
         }
     }
 }
 
-/// Checks COUNT cases of each edition from SEED on (environment, with these defaults).
+/// The cases of an edition that the gate checks.
+fn usual_count(edition: Edition) -> u64 {
+    match edition {
+        Edition::One => 100_000,
+        Edition::Four => 20_000,
+    }
+}
+
+/// Checks COUNT cases of each edition from SEED on (environment; by default the usual count from 0 on).
 #[test]
 fn kernel_and_second_implementation_agree() {
     let first = asked("SEED", 0);
-    let count = asked("COUNT", 100_000);
     for edition in Edition::ALL {
+        let count = asked("COUNT", usual_count(edition));
         let number = edition.number();
-        let mut refused = [0u64; 10];
+        let mut refused = [0u64; 12];
         for seed in first..first + count {
             let refusal = agreed_refusal(&case(edition, seed))
                 .unwrap_or_else(|fault| panic!("edition {number}, seed {seed}: {fault}"));
@@ -35,8 +45,9 @@ fn kernel_and_second_implementation_agree() {
         }
         println!("edition {number}, {count} cases from seed {first}, by refusal {refused:?}");
         if count >= 10_000 {
+            let met = |refusal: &u64| refused[*refusal as usize] > 0;
             assert!(
-                refused.iter().all(|&n| n > 0),
+                met(&0) && faults_of(edition).iter().all(met),
                 "edition {number}: a refusal was never met: {refused:?}"
             );
         }
@@ -45,20 +56,22 @@ fn kernel_and_second_implementation_agree() {
 
 #[test]
 fn no_drawn_arrangement_beats_a_report() {
-    let mut accepted = 0;
-    for seed in 0..asked("DRAWN", 2_000) {
-        let case = case(Edition::One, seed);
-        let answer = solve(&case.job, &mut case.patch.clone());
-        if answer.refusal != 0 {
-            continue;
+    for edition in Edition::ALL {
+        let mut accepted = 0;
+        for seed in 0..asked("DRAWN", 2_000) {
+            let case = case(edition, seed);
+            let answer = solve(&case.job, &mut case.patch.clone());
+            if answer.refusal != 0 {
+                continue;
+            }
+            accepted += 1;
+            let job = Job::decode(&words_of(&case.job));
+            if let Some(beating) = sampler::first_beating(&job, &answer.account, seed, 20) {
+                panic!("{edition:?}, seed {seed}: {beating:?}");
+            }
         }
-        accepted += 1;
-        let job = Job::decode(&words_of(&case.job));
-        if let Some(beating) = sampler::first_beating(&job, &answer.account, seed, 20) {
-            panic!("seed {seed}: {beating:?}");
-        }
+        assert!(accepted > 0, "{edition:?}: no job was accepted");
     }
-    assert!(accepted > 0, "no job was accepted");
 }
 
 #[test]
@@ -75,8 +88,8 @@ fn short_account_buffers_are_cleared() {
 
 #[test]
 fn bytes_past_an_account_stay() {
-    for seed in 0..200 {
-        let case = case(Edition::One, seed);
+    for (seed, edition) in (0..200).flat_map(|seed| Edition::ALL.map(|edition| (seed, edition))) {
+        let case = case(edition, seed);
         let mut account = vec![0xa5u8; ACCOUNT_BYTES + 16];
         call(&case.job, &mut case.patch.clone(), &mut account);
         assert!(account[ACCOUNT_BYTES..].iter().all(|&byte| byte == 0xa5));

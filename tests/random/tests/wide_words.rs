@@ -2,6 +2,7 @@
 //! such words as is due by the papers and by the second implementation.
 
 use random::{judged, trains};
+use second::farm_job::farm_job;
 use second::job::{Job, Piece};
 use second::job_a::job_a;
 use second::line::section_bytes;
@@ -45,8 +46,8 @@ fn line(pieces: i64) -> Vec<Piece> {
     (0..pieces).map(piece).collect()
 }
 
-/// Job A, and Job A with one piece, with the longest line, with five lanes and the most transverse ordinates.
-fn jobs() -> [(&'static str, Job); 4] {
+/// Job A, and Job A with one piece, with the longest line, with five lanes and the most transverse ordinates; a farm job.
+fn jobs() -> [(&'static str, Job); 5] {
     let mut one_piece = job_a();
     (one_piece.piece_length, one_piece.pieces) = (50, line(1));
     let mut longest_line = job_a();
@@ -59,6 +60,7 @@ fn jobs() -> [(&'static str, Job); 4] {
         ("one piece", one_piece),
         ("the longest line", longest_line),
         ("five lanes", five_lanes),
+        ("the farm job", farm_job()),
     ]
 }
 

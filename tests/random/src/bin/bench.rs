@@ -85,6 +85,11 @@ fn main() {
             second::job_a::job_a().bytes(),
             20_000,
         ),
+        (
+            "farm bridge (the example, N 10)",
+            second::farm_job::farm_job().bytes(),
+            20_000,
+        ),
         ("N 250, full tables", full(250), 1_000),
         ("N 500, full tables", full(500), 1_000),
         ("largest (N 1000, full tables)", full(1000), 1_000),
