@@ -147,8 +147,8 @@ enum hnho_barriers {
  * Factors are thousandths. Effects, rows and records count from 1.
  *
  * Edition 4 has no rows and no records: rows 1 to 20 are built in, docs/HOST.md lists them. Its effects are DL, EP, OW, SG, ST, TP,
- * HE, WD, FW, EQ and CN, in this order, the first three marked 1 and the others 2, else refusal 6 at the mark. It has one lane and 0.85 HN, and no HO: overload's
- * values are 0 and its placements unloaded.
+ * HE, WD, FW, EQ and CN, in this order, the first three marked 1 and the others 2, else refusal 6 at the mark. It has one lane and
+ * 0.85 HN, and no HO: overload's values are 0 and its placements unloaded.
  */
 enum hnho_word_place {
   HNHO_WORD_EDITION = 0,
@@ -203,7 +203,7 @@ struct hnho_governing {
   int64_t row;       /* from 1; the lowest at a tie */
   int64_t left_out;  /* a bit an effect, effect 1 the lowest; 1 where the effect is left out */
   int64_t unladen;   /* 1 where the traffic is left out, else 0 */
-  int64_t k;         /* where row 16 of a farm job governs, the factor of DL in thousandths, 1300 or 800 (either where both give it); else 0 */
+  int64_t k;         /* of row 16 of a farm job, its factor of DL in thousandths: 1300 or 800, either where both give it; else 0 */
 };
 
 /* A limit state. */

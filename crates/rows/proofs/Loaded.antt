@@ -105,16 +105,9 @@ module _ (q : Question) (effect : ℕ → Effect) (row : ℕ → Row) (traffic :
   one-alternative r x one e shown right =
       by-alternative r 0 x e (rw one (omega arith)) shown (right .value ∙ ap (λ (n : ℕ). extreme q n (λ a. bestChain q effect (row r .chain a)) +ℤ load r) (sym one)) right
 
-  -- the better of two, each with z more
-  first-best : (x y z : ℤ) → NoBetter q (y +ℤ z) (x +ℤ z) → x +ℤ z ≡ better q x y +ℤ z
-  first-best x y z h =
-      no-better-antisym q (x +ℤ z) (better q x y +ℤ z) (no-better-add q x (better q x y) z z (better-left q x y) (no-better-refl q z))
-      (better-ind q (λ w. NoBetter q (w +ℤ z) (x +ℤ z)) x y (no-better-refl q (x +ℤ z)) h)
-
-  second-best : (x y z : ℤ) → NoBetter q (x +ℤ z) (y +ℤ z) → y +ℤ z ≡ better q x y +ℤ z
-  second-best x y z h =
-      no-better-antisym q (y +ℤ z) (better q x y +ℤ z) (no-better-add q y (better q x y) z z (better-right q x y) (no-better-refl q z))
-      (better-ind q (λ w. NoBetter q (w +ℤ z) (y +ℤ z)) x y h (no-better-refl q (y +ℤ z)))
+  -- one of two that neither beats, each with z more, is the better
+  best-of : (x y w z : ℤ) → NoBetter q w (better q x y) → NoBetter q (x +ℤ z) (w +ℤ z) → NoBetter q (y +ℤ z) (w +ℤ z) → w +ℤ z ≡ better q x y +ℤ z
+  best-of x y w z one f g = no-better-antisym q (w +ℤ z) (better q x y +ℤ z) (no-better-add q w (better q x y) z z one (no-better-refl q z)) (better-ind q (λ v. NoBetter q (v +ℤ z) (w +ℤ z)) x y f g)
 
   -- there are two, of which the later counts if it is better
   pub two-alternatives : (r : ℕ) (x y : Governing) → eqb r 0 ≡ false → row r .others ≡ 1 → x .row ≡ r → y .row ≡ r → x .k ≡ row r .k 0 → y .k ≡ row r .k 1 →
@@ -123,8 +116,8 @@ module _ (q : Question) (effect : ℕ → Effect) (row : ℕ → Row) (traffic :
   two-alternatives r x y there two ex ey kx ky rx ry =
       subst (λ (t : Bool). Its r (if t then y else (if beats q (y .value) (x .value) then y else x))) (sym (ap (λ (n : ℕ). eqb n 0) ex ∙ there))
       (by-test (beats q (y .value) (x .value)) (λ t. Its r (if t then y else x))
-      (λ e. by-alternative r 1 y ey (rw two (omega arith)) ky (ry .value ∙ second-best (best 0) (best 1) (load r) (subst₂ (rx .value) (ry .value) (beats-yes q (y .value) (x .value) e .0)) ∙ whole) ry)
-      (λ e. by-alternative r 0 x ex (rw two (omega arith)) kx (rx .value ∙ first-best (best 0) (best 1) (load r) (subst₂ (ry .value) (rx .value) (beats-no q (y .value) (x .value) e .0)) ∙ whole) rx))
+      (λ e. by-alternative r 1 y ey (rw two (omega arith)) ky (ry .value ∙ best-of (best 0) (best 1) (best 1) (load r) (better-right q (best 0) (best 1)) (subst₂ (rx .value) (ry .value) (beats-yes q (y .value) (x .value) e .0)) (no-better-refl q _) ∙ whole) ry)
+      (λ e. by-alternative r 0 x ex (rw two (omega arith)) kx (rx .value ∙ best-of (best 0) (best 1) (best 0) (load r) (better-left q (best 0) (best 1)) (no-better-refl q _) (subst₂ (ry .value) (rx .value) (beats-no q (y .value) (x .value) e .0)) ∙ whole) rx))
     where
       best : ℕ → ℤ
       best a = bestChain q effect (row r .chain a)
