@@ -7,11 +7,11 @@ use native.Mathlib.Omega.{arith}
 use lib.Dec.{ltb}
 use borrow.Author.Tests.{lt-ltb}
 use Rattle.exact.specs.Choice.{if_then_else_}
-use Rattle.model.specs.Format.{headerOf}
+use Rattle.model.specs.Format.{profileOf, headerOf}
+use Rattle.model.specs.Job.{rural}
 use Rattle.model.specs.Decode.{decode}
 use Rattle.model.specs.Lanes.{laneCount, lanes}
 use Rattle.model.specs.Refusals.{jobVerdict}
-use Rattle.model.specs.declared.Edition.the-variants.{Fourth}
 use Rattle.model.proofs.Verdict.{clear}
 use Rattle.model.proofs.HeaderLimits.{header-fits, rural-width, whole-spacing}
 use Rattle.model.proofs.LineLimits.{OneSigned, one-signed}
@@ -32,7 +32,7 @@ module _ (b : List ℕ) (accepted : jobVerdict b ≡ none) where
   accepted-length = whole-spacing _ (header-fits b (clear b accepted .c2) .length) .0
 
   -- a rural bridge has one lane
-  pub accepted-one-lane : headerOf b .edition ≡ Fourth → lanes (decode b) ≡ 1
+  pub accepted-one-lane : profileOf (headerOf b .edition) ≡ rural → lanes (decode b) ≡ 1
   unfolding decode lanes laneCount
   accepted-one-lane r =
       let w = headerOf b .width in

@@ -16,11 +16,12 @@ use Rattle.exact.proofs.Bridge.{by-test, ≤→ℕ}
 use Rattle.exact.proofs.Tests.{leZ-true}
 use Rattle.words.specs.Words.{wordAt, countAt}
 use Rattle.words.specs.Fields.{free, range, _of_, itemFrom, misfit}
-use Rattle.model.specs.Format.{headerOf, is, dynamicFits, tableCounts, format, words, bytes, sectionOf}
+use Rattle.model.specs.Format.{profileOf, headerOf, is, dynamicFits, tableCounts, format, words, bytes, sectionOf}
+use Rattle.model.specs.Job.{Profile, highway, rural}
 use Rattle.model.specs.Dynamic.{dynamicFactor}
 use Rattle.model.specs.Refusals.{fault2, widthTest, fault11}
 use Rattle.model.specs.declared.Edition.{Edition}
-use Rattle.model.specs.declared.Edition.the-variants.{First, Fourth}
+use Rattle.model.specs.declared.Edition.the-variants.{First, Second, Fourth}
 use Rattle.model.specs.declared.Part.the-variants.{Head}
 use Rattle.model.proofs.Verdict.{header-long}
 use Rattle.model.proofs.Counts.{Count, wider, between-count, OneOf, one-of}
@@ -49,10 +50,10 @@ pub record HeaderFits (b : List ℕ) : Type 0 where
   pub rows : Count 0 32 (wordAt b 8)
   pub records : Count 0 512 (wordAt b 9)
   -- a rural bridge's eleven effects
-  pub eleven : headerOf b .edition ≡ Fourth → countAt b 7 ≡ 11
+  pub eleven : profileOf (headerOf b .edition) ≡ rural → countAt b 7 ≡ 11
 
-first-not-fourth : First ≡ Fourth → ⊥
-first-not-fourth e = subst (λ (x : Edition). elim x as (λ _. Type 0) [ First ↦ Unit {0} | Fourth ↦ ⊥ ]) e tt
+not-rural : highway ≡ rural → ⊥
+not-rural e = subst (λ (p : Profile). elim p as (λ _. Type 0) [ highway ↦ Unit {0} | rural ↦ ⊥ ]) e tt
 
 dynamic-words : (x y : ℤ) → Count 1 3 x → dynamicFits x y ≡ true → Count 0 5000 y × DynamicRight (up x) (up y)
 dynamic-words x y c =
@@ -118,15 +119,20 @@ header-fits b e =
     count q lo hi h t = between-count lo hi (wordAt b q) (rw (word q h) at t)
 
     -- words 7, 8 and 9, by edition
-    counts : Count 0 16 (wordAt b 7) × Count 0 32 (wordAt b 8) × Count 0 512 (wordAt b 9) × (headerOf b .edition ≡ Fourth → countAt b 7 ≡ 11)
+    counts : Count 0 16 (wordAt b 7) × Count 0 32 (wordAt b 8) × Count 0 512 (wordAt b 9) × (profileOf (headerOf b .edition) ≡ rural → countAt b 7 ≡ 11)
     counts = go (headerOf b .edition) (field 7 (omega arith)) (field 8 (omega arith)) (field 9 (omega arith))
       where
         Admits : Edition → ℕ → ℤ → Type 0
         Admits e j x = getD (tableCounts e) j free (itemFrom (sectionOf b Head) 0 0) x ≡ true
 
+        listed : between (pos 0) (pos 16) (wordAt (sectionOf b Head) 7) ≡ true → between (pos 1) (pos 32) (wordAt (sectionOf b Head) 8) ≡ true → between (pos 0) (pos 512) (wordAt (sectionOf b Head) 9) ≡ true →
+            Count 0 16 (wordAt b 7) × Count 0 32 (wordAt b 8) × Count 0 512 (wordAt b 9) × (highway ≡ rural → countAt b 7 ≡ 11)
+        listed x y z = (count 7 0 16 (omega arith) x, wider (count 8 1 32 (omega arith) y) (omega arith) (omega arith), count 9 0 512 (omega arith) z, λ n. absurd (not-rural n))
+
         go : (e : Edition) → Admits e 0 (wordAt (sectionOf b Head) 7) → Admits e 1 (wordAt (sectionOf b Head) 8) → Admits e 2 (wordAt (sectionOf b Head) 9) →
-            Count 0 16 (wordAt b 7) × Count 0 32 (wordAt b 8) × Count 0 512 (wordAt b 9) × (e ≡ Fourth → countAt b 7 ≡ 11)
-        go First x y z = (count 7 0 16 (omega arith) x, wider (count 8 1 32 (omega arith) y) (omega arith) (omega arith), count 9 0 512 (omega arith) z, λ n. absurd (first-not-fourth n))
+            Count 0 16 (wordAt b 7) × Count 0 32 (wordAt b 8) × Count 0 512 (wordAt b 9) × (profileOf e ≡ rural → countAt b 7 ≡ 11)
+        go First x y z = listed x y z
+        go Second x y z = listed x y z
         go Fourth x y z =
             let eleven = count 7 11 11 (omega arith) x in
             (wider eleven (omega arith) (omega arith), wider (count 8 0 0 (omega arith) y) (omega arith) (omega arith), wider (count 9 0 0 (omega arith) z) (omega arith) (omega arith), λ _. omega (arith, eleven .least, eleven .most))
@@ -135,20 +141,20 @@ header-fits b e =
     product {x} {y} {m} {n} e f h = omega (arith, ≤→ℕ (subst (λ (z : ℤ). (pos m *ℤ z) ≤ℤ pos 1000) f (subst (λ (z : ℤ). (z *ℤ y) ≤ℤ pos 1000) e h)))
 
 -- a rural bridge without fault 11 is at most 430 cm wide
-pub rural-width : (b : List ℕ) → fault11 b ≡ none → headerOf b .edition ≡ Fourth → countAt b 4 ≤ 430
+pub rural-width : (b : List ℕ) → fault11 b ≡ none → profileOf (headerOf b .edition) ≡ rural → countAt b 4 ≤ 430
 unfolding fault11
-rural-width b e r = rw (head-word b 4 (omega arith)) at (go (headerOf b .edition) r e)
+rural-width b e r = rw (head-word b 4 (omega arith)) at (go (profileOf (headerOf b .edition)) r e)
   where
     s : List ℕ
     s = sectionOf b Head
 
-    go : (ed : Edition) → ed ≡ Fourth → misfit (1 of widthTest ed) s ≡ none → up (wordAt s 4) ≤ 430
-    go First f e = absurd (first-not-fourth f)
-    go Fourth f e =
+    go : (p : Profile) → p ≡ rural → misfit (1 of widthTest p) s ≡ none → up (wordAt s 4) ≤ 430
+    go highway f e = absurd (not-rural f)
+    go rural f e =
         by-test (is 3 (wordAt s 10)) (λ t. (if t then range 370 430 else range 300 370) (itemFrom s 0 0) (wordAt s 4) ≡ true → up (wordAt s 4) ≤ 430)
         (λ _ t. between-count 370 430 (wordAt s 4) t .most)
         (λ _ t. let c = between-count 300 370 (wordAt s 4) t in omega (arith, c .most))
-        (fits (1 of widthTest Fourth) s e 0 4 (omega arith) (omega arith))
+        (fits (1 of widthTest rural) s e 0 4 (omega arith) (omega arith))
 
 -- 50 dm is a whole number of pieces
 pub whole-spacing : (h : ℕ) → OneOf (1 ∷ 2 ∷ 5 ∷ 10 ∷ 25 ∷ 50 ∷ []) h → (0 < h) × (50 / h * h ≡ 50)

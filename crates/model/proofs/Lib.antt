@@ -5,6 +5,8 @@ pub mod Determined
 pub mod RuralBridges
 pub mod Sections
 pub mod Counts
+pub mod Editions
+pub mod EditionOne
 pub mod Verdict
 pub mod HeaderLimits
 pub mod LineLimits

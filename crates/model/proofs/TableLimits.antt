@@ -6,27 +6,30 @@ use mathlib.Core.List.{List}
 use Prim.Native.Nat.{ℕ, _+_, _*_, _<_}
 use native.Mathlib.Omega.{arith}
 use lib.IntN.{ℤ, pos}
-use lib.Dec.{ltb}
+use lib.ListN.{length, getD}
 use borrow.Author.Tests.{not-true}
 use Rattle.exact.specs.Bounds.{Within}
 use Rattle.exact.specs.Choice.{if_then_else_, between}
 use Rattle.exact.specs.Parts.{up}
 use Rattle.exact.proofs.Bridge.{by-test}
-use Rattle.words.specs.Words.{wordAt, countAt}
-use Rattle.words.specs.Fields.{Item, misfit}
-use Rattle.model.specs.Format.{headerOf, is, mark, format, sectionOf, size}
+use Rattle.exact.proofs.Bounds.{within-le, within-pos, within-mul}
+use Rattle.words.specs.Words.{wordAt, countAt, wide}
+use Rattle.words.specs.Fields.{free, itemFrom, misfit}
+use Rattle.model.specs.Format.{profileOf, EffectUnit, kilonewtons, newtons, effectUnit, headerOf, is, effectFields, format, effectSize, sectionOf, size}
+use Rattle.model.specs.Job.{Profile}
+use Rattle.model.specs.Decode.{effectValue}
 use Rattle.model.specs.Refusals.{rowTests, chainReturns, chainNamesTwice, fault6, fault7, fault8}
-use Rattle.model.specs.declared.Edition.{Edition}
-use Rattle.model.specs.declared.Edition.the-variants.{First, Fourth}
 use Rattle.model.specs.declared.Header.{Header}
 use Rattle.model.specs.declared.Part.the-variants.{Effects, Rows, Records}
-use Rattle.model.proofs.Counts.{Count, wider, between-count, between-within}
+use Rattle.model.proofs.Verdict.{effect-size, two-or-three}
+use Rattle.model.proofs.Counts.{Count, between-count, between-within}
 use Rattle.words.proofs.Fits.{or-none, moved-none, fits, first-fits}
 
 -- ---- 6: effects, rows and records, item i of each section counting from 0
-pub record EffectFits (s : List ℕ) (i : ℕ) : Type 0 where
-  pub value : Within 1000000000 (wordAt s (size Effects * i))
-  pub mark : Count 1 2 (wordAt s (size Effects * i + 1))
+-- an effect's value in N·U, within 1e14 in either unit
+value-within : (u : EffectUnit) (p : Profile) (s : List ℕ) (i : ℕ) → let k = length (effectFields u p) in getD (effectFields u p) 0 free (itemFrom s (k * i) i) (wordAt s (k * i)) ≡ true → Within 100000000000000 (effectValue u s (effectSize u * i))
+value-within kilonewtons p s i t = within-le (within-mul (within-pos 1000 (omega arith)) (between-within 1000000000 (wordAt s (2 * i)) t)) (omega arith)
+value-within newtons p s i t = between-within 100000000000000 (wide (wordAt s (3 * i)) (wordAt s (3 * i + 1))) t
 
 pub record RowFits (s : List ℕ) (records i : ℕ) : Type 0 where
   pub limit : Count 1 2 (wordAt s (size Rows * i))
@@ -55,18 +58,12 @@ module _ (b : List ℕ) (clear : fault6 b ≡ none) (i : ℕ) where
   unfolding fault6
   searches = let r = or-none _ _ clear in let t = or-none _ _ (r .1) in (moved-none _ _ (r .0), moved-none _ _ (t .0), moved-none _ _ (or-none _ none (t .1) .0))
 
-  -- a mark is 1 or 2 in every edition
-  marked : (e : Edition) (item : Item) (x : ℤ) → mark e item x ≡ true → Count 1 2 x
-  marked First item x = between-count 1 2 x
-  marked Fourth item x =
-      by-test (ltb (item .number) 3) (λ b. let m = if b then 1 else 2 in between (pos m) (pos m) x ≡ true → Count 1 2 x)
-      (λ _ t. wider (between-count 1 1 x t) (omega arith) (omega arith)) (λ _ t. wider (between-count 2 2 x t) (omega arith) (omega arith))
-
-  -- effects are within their limits
-  pub effect-fits : i < head .effects → EffectFits (sectionOf b Effects) i
+  -- an effect's value is within 1e14 N·U, in either unit
+  pub effect-fits : i < head .effects → let u = effectUnit (head .edition) in Within 100000000000000 (effectValue u (sectionOf b Effects) (effectSize u * i))
   effect-fits h =
-      let field = fits (format head Effects) (sectionOf b Effects) (searches .0) i in
-      record { value = between-within _ _ (first-fits (format head Effects) _ (searches .0) i h (omega arith)); mark = marked (head .edition) _ _ (field 1 h (omega arith)) }
+      let u = effectUnit (head .edition) in
+      let p = profileOf (head .edition) in
+      value-within u p _ i (first-fits (format head Effects) _ (searches .0) i h (omega (arith, effect-size u p, two-or-three u .0)))
 
   -- and rows
   pub row-fits : i < head .rows → RowFits (sectionOf b Rows) (head .records) i

@@ -1,5 +1,5 @@
 -- An accepted job has no fault of any number.
-use mathlib.Core.Path.{_≡_, refl, _∙_, ap}
+use mathlib.Core.Path.{_≡_, refl, _∙_, ap, subst}
 use mathlib.Core.Bool.{Bool, true, false, _&&_, and-eq-true-iff}
 use mathlib.Core.Option.{Option, none, some, Option·some-ne-none}
 use mathlib.Core.List.{List, [], _∷_}
@@ -10,10 +10,11 @@ use lib.ListN.{length, getD}
 use borrow.Author.Tests.{eqb-true, leb-true, le-leb, lt-leb}
 use Rattle.exact.specs.Choice.{orElse}
 use Rattle.words.specs.Words.{wordAt}
-use Rattle.model.specs.Format.{headerOf, is, editionNumber, tableCounts, words, start, wordsDue, bytes}
+use Rattle.model.specs.Format.{EffectUnit, kilonewtons, newtons, headerOf, is, editionNumber, tableCounts, effectFields, words, start, wordsDue, bytes, effectSize}
+use Rattle.model.specs.Job.{Profile}
 use Rattle.model.specs.Refusals.{Refusal, Test, _finds_, firstRefusal, jobTests, unless, fault1, fault2, fault3, fault4, fault5, fault6, fault7, fault8, fault9, fault11, refuse, jobVerdict, verdict}
 use Rattle.model.specs.declared.Edition.{Edition}
-use Rattle.model.specs.declared.Edition.the-variants.{First, Fourth}
+use Rattle.model.specs.declared.Edition.the-variants.{First, Second, Fourth}
 use Rattle.model.specs.declared.Header.{Header}
 use Rattle.model.specs.declared.Part.{Part}
 use Rattle.model.specs.declared.Part.the-variants.{Head, Line, Transverse, Effects, Rows, Records}
@@ -56,16 +57,30 @@ clear b e = let c = all-clear (jobTests b) e in record { c1 = c 0; c2 = c 1; c11
 
 -- ---- 1 and 3: the size
 -- a header has ten words or more
-counts-size : (e : Edition) → (3 ≤ length (tableCounts e)) × (length (tableCounts e) ≤ 4)
+counts-size : (e : Edition) → (3 ≤ length (tableCounts e)) × (length (tableCounts e) ≤ 5)
 counts-size First = omega arith
+counts-size Second = omega arith
 counts-size Fourth = omega arith
 
 pub header-long : (head : Header) → bytes Head ≤ 4 * words head Head
 header-long head = omega (arith, counts-size (head .edition) .0)
 
--- and at most eleven
-pub header-short : (head : Header) → words head Head ≤ 11
+-- and at most twelve
+pub header-short : (head : Header) → words head Head ≤ 12
 header-short head = omega (arith, counts-size (head .edition) .1)
+
+-- a header of an edition among n bytes has that edition's words there
+pub edition-words : (head : Header) {e : Edition} {n : ℕ} → head .edition ≡ e → 4 * words head Head ≤ n → 4 * (7 + length (tableCounts e)) ≤ n
+edition-words head {n = n} e h = subst (λ (e : Edition). 4 * (7 + length (tableCounts e)) ≤ n) e (omega arith)
+
+-- an effect has its unit's words, two or three
+pub effect-size : (u : EffectUnit) (p : Profile) → length (effectFields u p) ≡ effectSize u
+effect-size kilonewtons p = refl
+effect-size newtons p = refl
+
+pub two-or-three : (u : EffectUnit) → (2 ≤ effectSize u) × (effectSize u ≤ 3)
+two-or-three kilonewtons = omega arith
+two-or-three newtons = omega arith
 
 module _ (b : List ℕ) (e : fault1 b ≡ none) where
   -- a job without fault 1 has its header's bytes, and a whole number of words

@@ -3,8 +3,9 @@ use Prim.Native.Nat.{ℕ, _+_, _-_, _*_, _/_}
 use mathlib.Core.{Bool.Bool, List.List, List.[], List._∷_, Option.Option, Option.none}
 use lib.{IntN.ℤ, IntN.pos, IntN._*ℤ_, Signed.leZ, ListN.length, ListN.take, ListN.drop, Dec.ltb}
 use Rattle.exact.specs.Choice.{if_then_else_, between, orElse}
-use Rattle.words.specs.{Words.wordAt, Words.countAt, Fields.Field, Fields.Layout, Fields.free, Fields.range, Fields.within, Fields.oneOf, Fields.given, Fields.numbered, Fields.both, Fields._of_, Fields.wordsIn, Fields.moved, Fields.misfit}
-use Rattle.model.specs.declared.{Edition.Edition, Edition.the-variants.First, Edition.the-variants.Fourth, Header.Header, Part.Part, Part.the-variants.Head, Part.the-variants.Line, Part.the-variants.Transverse, Part.the-variants.Effects, Part.the-variants.Rows, Part.the-variants.Records}
+use Rattle.words.specs.{Words.wordAt, Words.countAt, Fields.Field, Fields.Layout, Fields.free, Fields.range, Fields.within, Fields.wideWithin, Fields.oneOf, Fields.given, Fields.numbered, Fields.both, Fields._of_, Fields.wordsIn, Fields.moved, Fields.misfit}
+use Rattle.model.specs.Job.{Profile, highway, rural}
+use Rattle.model.specs.declared.{Edition.Edition, Edition.the-variants.First, Edition.the-variants.Second, Edition.the-variants.Fourth, Header.Header, Part.Part, Part.the-variants.Head, Part.the-variants.Line, Part.the-variants.Transverse, Part.the-variants.Effects, Part.the-variants.Rows, Part.the-variants.Records}
 
 -- x is m
 abbrev pub is : ℕ → ℤ → Bool
@@ -13,11 +14,28 @@ is m x = between (pos m) (pos m) x
 -- the number of an edition, word 0
 abbrev pub editionNumber : Edition → ℕ
 editionNumber First = 1
+editionNumber Second = 2
 editionNumber Fourth = 4
 
 -- the edition that word 0 names; where it names none, refusal 1 says so
 abbrev pub editionOf : ℤ → Edition
-editionOf x = if is (editionNumber Fourth) x then Fourth else First
+editionOf x = if is (editionNumber Fourth) x then Fourth else (if is (editionNumber Second) x then Second else First)
+
+-- an edition's loads
+abbrev pub profileOf : Edition → Profile
+profileOf First = highway
+profileOf Second = highway
+profileOf Fourth = rural
+
+-- the unit of effects: kN·U, each value a word, or N·U, each value a low and a high half
+pub data EffectUnit : Type 0 where
+  kilonewtons newtons : EffectUnit
+
+-- how an edition writes its effects
+abbrev pub effectUnit : Edition → EffectUnit
+effectUnit First = kilonewtons
+effectUnit Second = newtons
+effectUnit Fourth = kilonewtons
 
 -- the header, read once
 abbrev pub headerOf : List ℕ → Header
@@ -58,13 +76,22 @@ dynamicFits kind value =
 abbrev pub spaces : ℕ → ℕ → ℕ
 spaces w g = (w + g - 1) / g
 
--- the header's words from word 7 on, by edition
-abbrev pub tableCounts : Edition → List Field
-tableCounts First =
+-- the header's words 7, 8 and 9 where the job lists its rows, and those after them
+abbrev pub listedCounts : List Field → List Field
+listedCounts more =
     range 0 16  -- E
     ∷ range 1 32  -- R
     ∷ range 0 512  -- C
-    ∷ []
+    ∷ more
+
+-- the header's words from word 7 on, by edition
+abbrev pub tableCounts : Edition → List Field
+tableCounts First = listedCounts []
+tableCounts Second =
+    listedCounts
+    (range 0 0  -- word 10: 0
+    ∷ range 0 0  -- word 11: 0
+    ∷ [])
 tableCounts Fourth =
     range 11 11  -- E: DL, EP, OW, SG, ST, TP, HE, WD, FW, EQ, CN
     ∷ range 0 0  -- R: the rows are built in
@@ -73,9 +100,21 @@ tableCounts Fourth =
     ∷ []
 
 -- an effect's mark, 1 always present, 2 may be left out; a rural bridge's DL, EP and OW have 1, the others 2
-abbrev pub mark : Edition → Field
-mark First = range 1 2
-mark Fourth = numbered (λ i. let m = if ltb i 3 then 1 else 2 in range m m)
+abbrev pub mark : Profile → Field
+mark highway = range 1 2
+mark rural = numbered (λ i. let m = if ltb i 3 then 1 else 2 in range m m)
+
+-- an effect's words: its value, then its mark, which tells whether it may be left out
+abbrev pub effectFields : EffectUnit → Profile → List Field
+effectFields kilonewtons profile =
+    within 1000000000  -- value in kN·U
+    ∷ mark profile
+    ∷ []
+effectFields newtons profile =
+    given 1 (wideWithin 100000000000000)  -- low half of the value in N·U, at fault if the value is outside its limits
+    ∷ free  -- its high half
+    ∷ mark profile
+    ∷ []
 
 -- the table: so many items of these fields, a line a word
 abbrev pub format : Header → Part → Layout
@@ -92,10 +131,7 @@ format head Line = lineLayout (head .pieces)
 format head Transverse = spaces (head .width) (head .spacing) + 1 of
     within 1000  -- ordinate in thousandths, the first at the left kerb
     ∷ []
-format head Effects = head .effects of
-    within 1000000000  -- value in kN·U
-    ∷ mark (head .edition)  -- whether it may be left out
-    ∷ []
+format head Effects = head .effects of effectFields (effectUnit (head .edition)) (profileOf (head .edition))
 format head Rows = head .rows of
     range 1 2  -- 1 service, 2 ultimate
     ∷ range 0 2  -- live kind: 0 none, 1 normal, 2 overload
@@ -123,13 +159,21 @@ before Records = Head ∷ Line ∷ Transverse ∷ Effects ∷ Rows ∷ []
 abbrev noCounts : Header
 noCounts = record { edition = First; h = 0; pieces = 0; spacing = 0; width = 0; kind = 0; value = 0; effects = 0; rows = 0; records = 0 }
 
--- the words of an item of a part, whatever the counts, in edition 1; in edition 4 the header alone has others
+-- the words of an item of a part, whatever the counts, in edition 1; others differ in the header and the effects alone
 abbrev pub size : Part → ℕ
 size part = length (format noCounts part .fields)
 
 -- and its bytes
 abbrev pub bytes : Part → ℕ
 bytes part = 4 * size part
+
+-- the words of an effect, the same for all loads
+abbrev pub effectSize : EffectUnit → ℕ
+effectSize u = length (effectFields u highway)
+
+-- and its bytes
+abbrev pub effectBytes : EffectUnit → ℕ
+effectBytes u = 4 * effectSize u
 
 -- a part's words
 abbrev pub words : Header → Part → ℕ

@@ -14,7 +14,7 @@ use Rattle.words.specs.Words.{wordAt}
 use Rattle.words.specs.Fields.{Item, Field, Layout, free, wordsIn, moved, misfitFrom, itemFrom, itemMisfit, firstAnswer, misfit}
 
 -- item i of n items of k words is among them
-item-inside : (k i n : ℕ) → i < n → k * i + k ≤ k * n
+pub item-inside : (k i n : ℕ) → i < n → k * i + k ≤ k * n
 item-inside k i n h = let l : k * suc i ≤ k * n = mul-le-mul (le-refl k) h in rw (mul-suc k i) at l
 
 -- ---- an item

@@ -6,7 +6,7 @@ use mathlib.Core.List.{List, [], _∷_}
 use lib.IntN.{ℤ, pos, negℤ}
 use lib.ListN.{length}
 use Rattle.exact.specs.Choice.{if_then_else_, between, orElse}
-use Rattle.words.specs.Words.{wordAt}
+use Rattle.words.specs.Words.{wordAt, wide}
 
 -- an item: its number in its section, from 0, and its words
 pub record Item : Type 0 where
@@ -28,6 +28,10 @@ range lo hi item x = between (pos lo) (pos hi) x
 -- from -m to m
 abbrev pub within : ℕ → Field
 within m item x = between (negℤ (pos m)) (pos m) x
+
+-- the low half of a number from -m to m, given its high half
+abbrev pub wideWithin : ℕ → (high : ℤ) → Field
+wideWithin m high item low = between (negℤ (pos m)) (pos m) (wide low high)
 
 -- one of these
 abbrev pub oneOf : List ℕ → Field

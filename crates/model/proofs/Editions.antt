@@ -1,0 +1,26 @@
+-- What the editions of an arm of a `match` have in common. Such an arm is known by its editions' tags, which count from 0 in the order of their declaration.
+use mathlib.Core.Path.{_≡_, refl}
+use mathlib.Core.Logic.{inl, inr}
+use mathlib.Core.List.{[], _∷_}
+use native.Mathlib.Omega.{arith}
+use types.Run.{OneOf}
+use denote.Enum.Declared.{tagOf}
+use Rattle.model.specs.Format.{profileOf, kilonewtons, effectUnit}
+use Rattle.model.specs.Job.{highway}
+use Rattle.model.specs.declared.Edition.{Edition}
+use Rattle.model.specs.declared.Edition.the-variants.{First, Second, Fourth}
+use Rattle.model.proofs.Edition.{the-type}
+
+-- 1 and 2 are for highways
+pub highway-editions : (e : Edition) → OneOf (0 ∷ 2 ∷ []) (tagOf the-type e) → profileOf e ≡ highway
+highway-editions First t = refl
+highway-editions Second t = refl
+highway-editions Fourth (inl t) = absurd (omega arith)
+highway-editions Fourth (inr t) = absurd (omega arith)
+
+-- 1 and 4 have effects in kN·U
+pub kilonewton-editions : (e : Edition) → OneOf (0 ∷ 1 ∷ []) (tagOf the-type e) → effectUnit e ≡ kilonewtons
+kilonewton-editions First t = refl
+kilonewton-editions Second (inl t) = absurd (omega arith)
+kilonewton-editions Second (inr t) = absurd (omega arith)
+kilonewton-editions Fourth t = refl
