@@ -1,5 +1,5 @@
 -- Refusal 1 by its three tests, and the words that an edition calls for.
-use mathlib.Core.Path.{_≡_, refl, _∙_, ap}
+use mathlib.Core.Path.{_≡_, refl, _∙_, ap, ap₂}
 use mathlib.Core.Bool.{Bool, true, false, _&&_}
 use mathlib.Core.Option.{some}
 use mathlib.Core.List.{List, _∷_}
@@ -14,7 +14,7 @@ use Rattle.words.specs.Fields.{free}
 use Rattle.model.specs.Format.{headerOf, is, editionNumber, editionOf, tableCounts, words}
 use Rattle.model.specs.Refusals.{unless, fault1}
 use Rattle.model.specs.declared.Edition.{Edition}
-use Rattle.model.specs.declared.Edition.the-variants.{First, Fourth}
+use Rattle.model.specs.declared.Edition.the-variants.{First, Second, Fourth}
 use Rattle.model.specs.declared.Part.the-variants.{Head}
 
 module _ (b : List ℕ) where
@@ -51,15 +51,24 @@ module _ (b : List ℕ) where
       go false n e = ap (λ (t : Bool). unless t 0) e
 
 -- the words of an edition's header are among n bytes, and x is its number
-abbrev calls : Edition → ℕ → ℤ → Bool
+abbrev pub calls : Edition → ℕ → ℤ → Bool
 calls e n x = leb (4 * (length (free ∷ free ∷ free ∷ free ∷ free ∷ free ∷ free ∷ tableCounts e) * 1)) n && is (editionNumber e) x
 
-pub calls-fourth : (n : ℕ) (x : ℤ) → is 4 x ≡ true → calls (editionOf x) n x ≡ leb 44 n
-calls-fourth n x e = ap (λ (s : Bool). calls (if s then Fourth else First) n x) e ∙ go (leb 44 n)
-  where
-    go : (t : Bool) → (t && is 4 x) ≡ t
-    go true = e
-    go false = refl
+module _ (n : ℕ) (x : ℤ) where
+  -- by the two tests of word 0
+  by-tests : {s t : Bool} → is 4 x ≡ s → is 2 x ≡ t → calls (editionOf x) n x ≡ calls (if s then Fourth else (if t then Second else First)) n x
+  by-tests e f = ap₂ (λ (s t : Bool). calls (if s then Fourth else (if t then Second else First)) n x) e f
 
-pub calls-first : (n : ℕ) (x : ℤ) → is 4 x ≡ false → 40 ≤ n → calls (editionOf x) n x ≡ is 1 x
-calls-first n x e h = ap (λ (s : Bool). calls (if s then Fourth else First) n x) e ∙ ap (λ (t : Bool). t && is 1 x) (le-leb 40 n h)
+  -- a test that holds drops out
+  true-drops : (m : ℕ) (t : Bool) → is m x ≡ true → (t && is m x) ≡ t
+  true-drops m true e = e
+  true-drops m false e = refl
+
+  pub calls-fourth : is 4 x ≡ true → calls (editionOf x) n x ≡ leb 44 n
+  calls-fourth e = by-tests e refl ∙ true-drops 4 (leb 44 n) e
+
+  pub calls-second : is 4 x ≡ false → is 2 x ≡ true → calls (editionOf x) n x ≡ leb 48 n
+  calls-second e f = by-tests e f ∙ true-drops 2 (leb 48 n) f
+
+  pub calls-first : is 4 x ≡ false → is 2 x ≡ false → 40 ≤ n → calls (editionOf x) n x ≡ is 1 x
+  calls-first e f h = by-tests e f ∙ ap (λ (t : Bool). t && is 1 x) (le-leb 40 n h)

@@ -13,7 +13,7 @@ ghost use Rattle.model.specs.Format.{is, editionNumber, headerOf, bytes, words,
 ghost use Rattle.model.specs.Refusals.{fault1, fault2, fault3, fault4, fault5, fault6, fault11, rowFault, jobVerdict};
 ghost use Rattle.model.specs.declared.Part.the-variants.{Head, Line};
 ghost use Rattle.sections.specs.Sized.{Counted, Sized};
-ghost use Rattle.limits.specs.Faults.{placeOf};
+ghost use Rattle.limits.specs.Faults.{placeOf, AfterHeader};
 ghost use Rattle.job.specs.Defects.{chainPasses};
 ghost use Rattle.job.specs.Rulings.{findingOf, Rules, testOf, Passed};
 use crate::defects;
@@ -43,6 +43,9 @@ fn has_edition(s: &[u8]) -> bool
     let edition = words::word(s, 0);
     if edition == model::RURAL_EDITION {
         return 4 * model::RURAL_HEADER_WORDS <= s.len();
+    }
+    if edition == model::WIDE_EDITION {
+        return 4 * model::WIDE_HEADER_WORDS <= s.len();
     }
     if edition == model::FIRST_EDITION {
         return true;
@@ -110,9 +113,9 @@ fn width(s: &[u8], head: Header) -> Finding
     in_job(head, Part::Head, own)
 }
 
-// The lowest place at fault in a part.
+// The lowest place at fault in a part after the header.
 fn fault(s: &[u8], head: Header, part: Part) -> Finding
-    requires { ⌜ Sized (now s) head ⌝ }
+    requires { ⌜ AfterHeader part × Sized (now s) head ⌝ }
     ensures { λ r. ⌜ findingOf r ≡ fault (now (s .entry)) (headerOf (now (s .entry))) part ⌝ }
 {
     in_job(

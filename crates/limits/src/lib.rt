@@ -1,20 +1,21 @@
 // The lowest place at fault in a part, item by item, by the limits of its row of the table. Places count from the part's first word.
 ghost use mathlib.Core.Path.{_≡_};
 ghost use mathlib.Core.Option.{some};
-ghost use Prim.Native.Nat.{_+_, _*_, _≤_, _<_};
+ghost use mathlib.Core.List.{List};
+ghost use Prim.Native.Nat.{ℕ, _+_, _*_, _≤_, _<_};
 ghost use lib.IntN.{pos, negℤ};
 ghost use lib.Dec.{ltb};
 ghost use lib.ListN.{length};
 ghost use Rattle.exact.specs.Bounds.{Within};
 ghost use Rattle.exact.specs.Choice.{if_then_else_, between};
-ghost use Rattle.words.specs.Words.{wordAt};
-ghost use Rattle.words.specs.Fields.{admits, misfitFrom, itemFrom, misfit};
-ghost use Rattle.model.specs.Format.{is, pieceLength, pieceCount, dynamicFits, tableCounts, mark, format, size, bytes, words};
+ghost use Rattle.words.specs.Words.{wordAt, wide};
+ghost use Rattle.words.specs.Fields.{Field, admits, misfitFrom, itemFrom, misfit};
+ghost use Rattle.model.specs.Format.{profileOf, kilonewtons, newtons, effectUnit, is, pieceLength, pieceCount, dynamicFits, listedCounts, tableCounts, mark, effectFields, format, size, bytes, effectSize, words};
 ghost use Rattle.model.specs.Refusals.{clearWidth, widthTest};
-ghost use Rattle.model.specs.declared.Edition.the-variants.{First, Fourth};
+ghost use Rattle.model.specs.declared.Edition.the-variants.{Second, Fourth};
 ghost use Rattle.model.specs.declared.Part.the-variants.{Head, Line, Transverse, Effects, Rows, Records};
 ghost use Rattle.sections.specs.Sized.{Counted};
-ghost use Rattle.limits.specs.Faults.{placeOf};
+ghost use Rattle.limits.specs.Faults.{placeOf, AfterHeader};
 use model::Edition;
 use model::Header;
 use model::Part;
@@ -110,17 +111,26 @@ fn dynamic_fits(s: &[u8]) -> bool
     in_range(s, 6, 0, 5000)
 }
 
-// Edition 1's words from 7 on: E, R, C.
-fn listed_counts(s: &[u8]) -> Fault
+// The words from 7 on of a job that lists its rows: E, R, C, and later ones.
+fn listed_counts(s: &[u8], later: Fault) -> Fault
     requires { ⌜ bytes Head ≤ length (now s) ⌝ }
-    ensures { λ r. ⌜ placeOf r ≡ misfitFrom 7 (tableCounts First) (itemFrom (now (s .entry)) 0 0) ⌝ }
+    ensures { λ r. ⌜ ((more : List Field) → placeOf later ≡ misfitFrom 10 more (itemFrom (now (s .entry)) 0 0) → placeOf r ≡ misfitFrom 7 (listedCounts more) (itemFrom (now (s .entry)) 0 0)) ⌝ }
 {
-    let records = field(9, in_range(s, 9, 0, 512), Fault::Clear);
+    let records = field(9, in_range(s, 9, 0, 512), later);
     let rows = field(8, in_range(s, 8, 1, 32), records);
     field(7, in_range(s, 7, 0, 16), rows)
 }
 
-// Edition 4's: its eleven effects, no rows or records of its own, barriers.
+// Edition 2's words from 7 on: E, R, C, and two that are 0.
+fn wide_counts(s: &[u8]) -> Fault
+    requires { ⌜ 48 ≤ length (now s) ⌝ }
+    ensures { λ r. ⌜ placeOf r ≡ misfitFrom 7 (tableCounts Second) (itemFrom (now (s .entry)) 0 0) ⌝ }
+{
+    let last = field(11, in_range(s, 11, 0, 0), Fault::Clear);
+    listed_counts(s, field(10, in_range(s, 10, 0, 0), last))
+}
+
+// Edition 4's words from 7 on: its eleven effects, no rows or records of its own, barriers.
 fn rural_counts(s: &[u8]) -> Fault
     requires { ⌜ 44 ≤ length (now s) ⌝ }
     ensures { λ r. ⌜ placeOf r ≡ misfitFrom 7 (tableCounts Fourth) (itemFrom (now (s .entry)) 0 0) ⌝ }
@@ -138,7 +148,8 @@ fn counts_misfit(s: &[u8], head: Header) -> Fault
 {
     let edition = head.edition;
     match edition {
-        Edition::First => listed_counts(s),
+        Edition::First => listed_counts(s, Fault::Clear),
+        Edition::Second => wide_counts(s),
         Edition::Fourth => rural_counts(s),
     }
 }
@@ -171,11 +182,11 @@ fn clear_width(s: &[u8]) -> bool
 // The header's width where it is outside its barriers' band.
 pub fn width_misfit(s: &[u8], head: Header) -> Fault
     requires { ⌜ 4 * words head Head ≤ length (now s) ⌝ }
-    ensures { λ r. ⌜ placeOf r ≡ misfitFrom 0 (widthTest (head .edition)) (itemFrom (now (s .entry)) 0 0) ⌝ }
+    ensures { λ r. ⌜ placeOf r ≡ misfitFrom 0 (widthTest (profileOf (head .edition))) (itemFrom (now (s .entry)) 0 0) ⌝ }
 {
     let edition = head.edition;
     match edition {
-        Edition::First => Fault::Clear,
+        Edition::First | Edition::Second => Fault::Clear,
         Edition::Fourth => field(4, clear_width(s), Fault::Clear),
     }
 }
@@ -211,11 +222,11 @@ fn rural_mark(i: usize) -> usize
 // The mark of effect i, at word p.
 fn mark_fits(s: &[u8], head: Header, i: usize, p: usize) -> bool
     requires { ⌜ 4 * p + 4 ≤ length (now s) ⌝ }
-    ensures { λ r. ⌜ r ≡ mark (head .edition) (itemFrom (now (s .entry)) (size Effects * i) i) (wordAt (now (s .entry)) p) ⌝ }
+    ensures { λ r. ⌜ ((first : ℕ) → r ≡ mark (profileOf (head .edition)) (itemFrom (now (s .entry)) first i) (wordAt (now (s .entry)) p)) ⌝ }
 {
     let edition = head.edition;
     match edition {
-        Edition::First => in_range(s, p, 1, 2),
+        Edition::First | Edition::Second => in_range(s, p, 1, 2),
         Edition::Fourth => {
             let m = rural_mark(i);
             in_range(s, p, m, m)
@@ -223,14 +234,44 @@ fn mark_fits(s: &[u8], head: Header, i: usize, p: usize) -> bool
     }
 }
 
-// An effect: value, mark.
-fn effect_misfit(s: &[u8], head: Header, i: usize) -> Fault
-    requires { ⌜ bytes Effects * i + bytes Effects ≤ length (now s) ⌝ }
-    ensures { λ r. ⌜ placeOf r ≡ misfitFrom 0 (format head Effects .fields) (itemFrom (now (s .entry)) (size Effects * i) i) ⌝ }
+// An effect in kN·U: value, mark.
+fn kilonewton_effect_misfit(s: &[u8], head: Header, i: usize) -> Fault
+    requires { ⌜ 4 * (effectSize kilonewtons * i + effectSize kilonewtons) ≤ length (now s) ⌝ }
+    ensures { λ r. ⌜ placeOf r ≡ misfitFrom 0 (effectFields kilonewtons (profileOf (head .edition))) (itemFrom (now (s .entry)) (effectSize kilonewtons * i) i) ⌝ }
 {
     let p = model::EFFECT_WORDS * i;
     let mark = field(1, mark_fits(s, head, i, p + 1), Fault::Clear);
     field(0, within(s, p, 1000000000), mark)
+}
+
+// The value in N·U of an effect, in the two words from p on, is within its limits.
+fn newton_value_fits(s: &[u8], p: usize) -> bool
+    requires { ⌜ 4 * p + 8 ≤ length (now s) ⌝ }
+    ensures { λ r. ⌜ r ≡ between (negℤ (pos 100000000000000)) (pos 100000000000000) (wide (wordAt (now (s .entry)) p) (wordAt (now (s .entry)) (p + 1))) ⌝ }
+{
+    exact::is_between(-100000000000000, 100000000000000, words::wide(s, p))
+}
+
+// An effect in N·U: value in two halves, at fault at the low one, and mark.
+fn newton_effect_misfit(s: &[u8], head: Header, i: usize) -> Fault
+    requires { ⌜ 4 * (effectSize newtons * i + effectSize newtons) ≤ length (now s) ⌝ }
+    ensures { λ r. ⌜ placeOf r ≡ misfitFrom 0 (effectFields newtons (profileOf (head .edition))) (itemFrom (now (s .entry)) (effectSize newtons * i) i) ⌝ }
+{
+    let p = model::WIDE_EFFECT_WORDS * i;
+    let mark = field(2, mark_fits(s, head, i, p + 2), Fault::Clear);
+    field(0, newton_value_fits(s, p), mark)
+}
+
+// An effect, as its edition writes it.
+fn effect_misfit(s: &[u8], head: Header, i: usize) -> Fault
+    requires { ⌜ 4 * (effectSize (effectUnit (head .edition)) * i + effectSize (effectUnit (head .edition))) ≤ length (now s) ⌝ }
+    ensures { λ r. ⌜ placeOf r ≡ misfitFrom 0 (format head Effects .fields) (itemFrom (now (s .entry)) (effectSize (effectUnit (head .edition)) * i) i) ⌝ }
+{
+    let edition = head.edition;
+    match edition {
+        Edition::First | Edition::Fourth => kilonewton_effect_misfit(s, head, i),
+        Edition::Second => newton_effect_misfit(s, head, i),
+    }
 }
 
 // The greatest live factor of the live kind at word p.
@@ -267,13 +308,13 @@ fn record_misfit(s: &[u8], head: Header, i: usize) -> Fault
     field(0, in_range(s, p, 1, head.effects), factor)
 }
 
-// The field at fault of item i of a part.
+// The field at fault of item i of a part after the header.
 fn item_misfit(s: &[u8], head: Header, part: Part, i: usize) -> Fault
-    requires { ⌜ (i < format head part .items) × (4 * words head part ≤ length (now s)) ⌝ }
+    requires { ⌜ AfterHeader part × (i < format head part .items) × (4 * words head part ≤ length (now s)) ⌝ }
     ensures { λ r. ⌜ placeOf r ≡ misfitFrom 0 (format head part .fields) (itemFrom (now (s .entry)) (length (format head part .fields) * i) i) ⌝ }
 {
     match part {
-        Part::Head => header_misfit(s, head),
+        Part::Head => Fault::Clear,
         Part::Line => piece_misfit(s, head, i),
         Part::Transverse => transverse_misfit(s, head, i),
         Part::Effects => effect_misfit(s, head, i),
@@ -282,9 +323,9 @@ fn item_misfit(s: &[u8], head: Header, part: Part, i: usize) -> Fault
     }
 }
 
-// The lowest place at fault in a part, given as its own bytes.
+// The lowest place at fault in a part after the header, given as its own bytes.
 pub fn misfit(s: &[u8], head: Header, part: Part) -> Fault
-    requires { ⌜ Counted head × (4 * words head part ≤ length (now s)) ⌝ }
+    requires { ⌜ AfterHeader part × Counted head × (4 * words head part ≤ length (now s)) ⌝ }
     ensures { λ r. ⌜ placeOf r ≡ misfit (format head part) (now (s .entry)) ⌝ }
 {
     for i in 0..sections::items(head, part) {

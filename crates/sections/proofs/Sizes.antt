@@ -3,17 +3,17 @@ use mathlib.Core.Path.{_≡_, sym, _∙_, ap, ap₂, subst}
 use mathlib.Core.Option.{none}
 use mathlib.Core.List.{List}
 use Prim.Native.Nat.{ℕ, _+_, _-_, _*_, _≤_, _<_}
-use native.Mathlib.Nat.{div-lt-iff-lt-mul}
+use native.Mathlib.Nat.{div-lt-iff-lt-mul, mul-le-mul}
 use native.Mathlib.Omega.{arith}
 use lib.ListN.{take, drop, length}
-use Rattle.model.specs.Format.{headerOf, spaces, words, start, wordsDue, section, sectionOf}
+use Rattle.model.specs.Format.{profileOf, effectUnit, headerOf, effectFields, spaces, words, start, wordsDue, section, sectionOf}
 use Rattle.model.specs.declared.Header.{Header}
 use Rattle.model.specs.declared.Part.{Part}
 use Rattle.model.specs.declared.Part.the-variants.{Head, Line, Transverse, Effects, Rows, Records}
 use Rattle.model.specs.Refusals.{fault1, fault2, fault3}
 use Rattle.model.proofs.HeaderLimits.{header-fits}
 use Rattle.model.proofs.Sections.{section-length}
-use Rattle.model.proofs.Verdict.{header-short, size-fits, part-inside}
+use Rattle.model.proofs.Verdict.{header-short, effect-size, two-or-three, size-fits, part-inside}
 use Rattle.sections.specs.Sized.{Counted, Sized}
 
 -- a job without faults 1 to 3 has the bytes that its header calls for
@@ -39,11 +39,15 @@ pub few-spaces : {head : Header} → Counted head → spaces (head .width) (head
 few-spaces {head} c = let l : head .width + head .spacing - 1 < 2080 * head .spacing = omega (arith, c .spaced, c .width) in div-lt-iff-lt-mul (c .spaced) .1 l
 
 -- no part has more words than its counts allow
-pub few-words : (head : Header) (part : Part) → Counted head → {p : ℕ} → p < words head part → p ≤ 22880
+pub few-words : (head : Header) (part : Part) → Counted head → {p : ℕ} → p < words head part → p ≤ 24960
 few-words head Head c h = omega (arith, header-short head)
 few-words head Line c h = omega arith
 few-words head Transverse c h = let s = few-spaces c in omega arith
-few-words head Effects c h = omega arith
+few-words head Effects c h =
+    let u = effectUnit (head .edition) in
+    let p = profileOf (head .edition) in
+    let l : length (effectFields u p) ≤ 3 = omega (arith, effect-size u p, two-or-three u .1) in
+    omega (arith, mul-le-mul l (c .effects))
 few-words head Rows c h = omega arith
 few-words head Records c h = omega arith
 

@@ -13,8 +13,12 @@ fn edition(s: &[u8]) -> Edition
     requires { ⌜ bytes Head ≤ length (now s) ⌝ }
     ensures { λ r. ⌜ r ≡ editionOf (wordAt (now (s .entry)) 0) ⌝ }
 {
-    if words::word(s, 0) == model::RURAL_EDITION {
+    let number = words::word(s, 0);
+    if number == model::RURAL_EDITION {
         return Edition::Fourth;
+    }
+    if number == model::WIDE_EDITION {
+        return Edition::Second;
     }
     Edition::First
 }
@@ -40,11 +44,12 @@ pub fn read(s: &[u8]) -> Header
 
 // How many words it has, by its edition.
 pub fn size(head: Header) -> usize
-    ensures { λ r. ⌜ (r ≡ length (format head Head .fields)) × (r ≤ 11) ⌝ }
+    ensures { λ r. ⌜ (r ≡ length (format head Head .fields)) × (r ≤ 12) ⌝ }
 {
     let edition = head.edition;
     match edition {
         Edition::First => model::HEADER_WORDS,
+        Edition::Second => model::WIDE_HEADER_WORDS,
         Edition::Fourth => model::RURAL_HEADER_WORDS,
     }
 }

@@ -4,20 +4,32 @@ pub mod header;
 ghost use mathlib.Core.Path.{_≡_};
 ghost use Prim.Native.Nat.{_≤_};
 ghost use lib.ListN.{length};
-ghost use Rattle.model.specs.Format.{format, words, start, wordsDue, sectionOf};
+ghost use Rattle.model.specs.Format.{effectUnit, format, effectSize, words, start, wordsDue, sectionOf};
 ghost use Rattle.sections.specs.Sized.{Counted, Sized};
+use model::Edition;
 use model::Header;
 use model::Part;
 
+// The words of an effect.
+fn effect_words(head: Header) -> usize
+    ensures { λ r. ⌜ (r ≡ effectSize (effectUnit (head .edition))) × (r ≤ 3) ⌝ }
+{
+    let edition = head.edition;
+    match edition {
+        Edition::First | Edition::Fourth => model::EFFECT_WORDS,
+        Edition::Second => model::WIDE_EFFECT_WORDS,
+    }
+}
+
 // The words of an item.
 pub fn item_words(head: Header, part: Part) -> usize
-    ensures { λ r. ⌜ (r ≡ length (format head part .fields)) × (r ≤ 11) ⌝ }
+    ensures { λ r. ⌜ (r ≡ length (format head part .fields)) × (r ≤ 12) ⌝ }
 {
     match part {
         Part::Head => header::size(head),
         Part::Line => model::PIECE_WORDS,
         Part::Transverse => 1,
-        Part::Effects => model::EFFECT_WORDS,
+        Part::Effects => effect_words(head),
         Part::Rows => model::ROW_WORDS,
         Part::Records => model::RECORD_WORDS,
     }
@@ -45,7 +57,7 @@ pub fn items(head: Header, part: Part) -> usize
 // A part's words.
 fn words(head: Header, part: Part) -> usize
     requires { ⌜ Counted head ⌝ }
-    ensures { λ r. ⌜ (r ≡ words head part) × (r ≤ 22880) ⌝ }
+    ensures { λ r. ⌜ (r ≡ words head part) × (r ≤ 24960) ⌝ }
 {
     item_words(head, part) * items(head, part)
 }
@@ -53,7 +65,7 @@ fn words(head: Header, part: Part) -> usize
 // Each part starts where the one before it ends.
 pub fn start(head: Header, part: Part) -> usize
     requires { ⌜ Counted head ⌝ }
-    ensures { λ r. ⌜ (r ≡ start head part) × (r ≤ 114400) ⌝ }
+    ensures { λ r. ⌜ (r ≡ start head part) × (r ≤ 124800) ⌝ }
 {
     let line = words(head, Part::Head);
     let transverse = line + words(head, Part::Line);
@@ -73,7 +85,7 @@ pub fn start(head: Header, part: Part) -> usize
 // The word count that the header calls for.
 pub fn words_due(head: Header) -> usize
     requires { ⌜ Counted head ⌝ }
-    ensures { λ r. ⌜ (r ≡ wordsDue head) × (r ≤ 137280) ⌝ }
+    ensures { λ r. ⌜ (r ≡ wordsDue head) × (r ≤ 149760) ⌝ }
 {
     start(head, Part::Records) + words(head, Part::Records)
 }

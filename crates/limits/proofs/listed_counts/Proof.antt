@@ -4,7 +4,7 @@ use Rattle.limits.proofs.listed_counts.Statement.{statement}
 use Rattle.limits.proofs.listed_counts.Tie as tie
 
 returns : tie.Need-returns
-returns c =
+returns c more later =
     rw (
       c .field3 .ensures,
       c .before .in-range3 .ensures,
@@ -12,6 +12,7 @@ returns c =
       c .before .before .before .in-range2 .ensures,
       c .before .before .before .before .field .ensures,
       c .before .before .before .before .before .in-range .ensures,
+      later,
     )
     refl
 

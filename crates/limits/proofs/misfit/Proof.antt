@@ -19,7 +19,7 @@ abbrev μ-loop : tie.MeasureT-loop
 μ-loop s head part i₀ i-end i = i-end - i
 
 item-misfit-requires : tie.Need-item-misfit-requires Inv-loop μ-loop
-item-misfit-requires c κs = (omega (arith, c .before .before .items .ensures .0), c .before .before .before .before .pre .1)
+item-misfit-requires c κs = let st = c .before .before .before .before in (st .pre .0, omega (arith, c .before .before .items .ensures .0), st .pre .2)
 
 -- the place at fault, where item i has one: as the code adds it up
 module _ (c : tie.After-item-words Inv-loop μ-loop) where
@@ -41,8 +41,8 @@ module _ (c : tie.After-item-words Inv-loop μ-loop) where
       search-found (item .before .before .loop .inv) (omega arith) (ap (moved _) (sym (item .item-misfit .ensures) ∙ ap placeOf (c .before .before .fault .given .1)))
       ∙ ap (λ (w : ℕ). some (w * i + j)) (sym (c .item-words .ensures .0))
 
-  small : place ≤ 22880
-  small = few-words (st .args .head) (st .args .part) (st .pre .0) (below (format (st .args .head) (st .args .part)) _ place found)
+  small : place ≤ 24960
+  small = few-words (st .args .head) (st .args .part) (st .pre .1) (below (format (st .args .head) (st .args .part)) _ place found)
 
 returns : tie.Need-returns Inv-loop μ-loop
 returns c = sym (found c)

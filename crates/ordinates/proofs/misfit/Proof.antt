@@ -14,7 +14,7 @@ returns c =
     sym (all-within (st .args .head) _ (st .pre .1) (c .before .strays .ensures (c .if1 .taken)))
 
 misfit-requires : tie.Need-misfit-requires
-misfit-requires c κs = let st = c .before .before .before in (st .pre .0, omega (arith, st .pre .1))
+misfit-requires c κs = let st = c .before .before .before in (tt, st .pre .0, omega (arith, st .pre .1))
 
 pub misfit-spec : {M : Type 1} → statement M
 misfit-spec = tie.close (tie.spec strays-requires returns misfit-requires (λ c. search needs))

@@ -5,10 +5,9 @@ use native.Mathlib.Omega.{arith}
 use lib.ListN.{length}
 use borrow.Author.Needs.{needs}
 use Rattle.words.specs.Fields.{misfitFrom, itemFrom}
-use Rattle.model.specs.Format.{headerOf, section}
+use Rattle.model.specs.Format.{profileOf, headerOf, section}
+use Rattle.model.specs.Job.{Profile, highway, rural}
 use Rattle.model.specs.Refusals.{widthTest, fault11}
-use Rattle.model.specs.declared.Edition.{Edition}
-use Rattle.model.specs.declared.Edition.the-variants.{First, Fourth}
 use Rattle.model.specs.declared.Header.{Header}
 use Rattle.model.specs.declared.Part.the-variants.{Head}
 use Rattle.model.proofs.Sections.{section-length}
@@ -24,14 +23,14 @@ width-misfit-requires c κs =
     omega (arith, ap length (c .section .ensures), section-length (st .args .s .now) (st .args .head) Head (omega (arith, st .pre .2)))
 
 -- the test is at the header's words
-few : (e : Edition) → length (widthTest e) ≤ 5
-few First = omega arith
-few Fourth = omega arith
+few : (p : Profile) → length (widthTest p) ≤ 5
+few highway = omega arith
+few rural = omega arith
 
 in-job-requires : tie.Need-in-job-requires
 in-job-requires c κs =
     let st = c .before .before .before in
-    (st .pre .1, λ p e. omega (arith, header-long (st .args .head), few (st .args .head .edition), item-below (widthTest (st .args .head .edition)) 0 _ p (sym (c .width-misfit .ensures) ∙ e)))
+    (st .pre .1, λ p e. omega (arith, header-long (st .args .head), few (profileOf (st .args .head .edition)), item-below (widthTest (profileOf (st .args .head .edition))) 0 _ p (sym (c .width-misfit .ensures) ∙ e)))
 
 returns : tie.Need-returns
 unfolding fault11
@@ -41,9 +40,9 @@ returns c =
     c .in-job .ensures
     ∙ in-front _
     ∙ c .before .width-misfit .ensures
-    ∙ ap (λ (own : List ℕ). misfitFrom 0 (widthTest (st .args .head .edition)) (itemFrom own 0 0)) (c .before .before .section .ensures)
-    ∙ ap (λ (head : Header). misfitFrom 0 (widthTest (head .edition)) (itemFrom (section s head Head) 0 0)) (st .pre .0)
-    ∙ sym (one-item (widthTest (headerOf s .edition)) _)
+    ∙ ap (λ (own : List ℕ). misfitFrom 0 (widthTest (profileOf (st .args .head .edition))) (itemFrom own 0 0)) (c .before .before .section .ensures)
+    ∙ ap (λ (head : Header). misfitFrom 0 (widthTest (profileOf (head .edition))) (itemFrom (section s head Head) 0 0)) (st .pre .0)
+    ∙ sym (one-item (widthTest (profileOf (headerOf s .edition))) _)
 
 pub width-spec : {M : Type 1} → statement M
 width-spec = tie.close (tie.spec (λ c κs. search needs) width-misfit-requires in-job-requires returns)

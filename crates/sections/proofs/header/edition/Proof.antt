@@ -11,7 +11,14 @@ returns : tie.Need-returns
 returns c = rw (eq-yes (got w64 (c .before .word .ok) (c .before .word .ensures)) (lit w64 4 (lit< tt)) (c .if1 .taken)) refl
 
 returns-2 : tie.Need-returns-2
-returns-2 c = rw (is-failed 4 (c .before .word .ensures .0) (c .if1 .left)) refl
+returns-2 c =
+    let w = c .before .before .word in
+    rw (eq-yes (got w64 (w .ok) (w .ensures)) (lit w64 2 (lit< tt)) (c .if2 .taken)) refl
+
+returns-3 : tie.Need-returns-3
+returns-3 c =
+    let w = c .before .before .word in
+    rw (is-failed 4 (w .ensures .0) (c .before .if1 .left), is-failed 2 (w .ensures .0) (c .if2 .left)) refl
 
 pub edition-spec : {M : Type 1} → statement M
-edition-spec = tie.close (tie.spec (λ c κs. search needs) returns returns-2)
+edition-spec = tie.close (tie.spec (λ c κs. search needs) returns returns-2 returns-3)

@@ -1,0 +1,20 @@
+use mathlib.Core.Path.{refl}
+use mathlib.Core.List.{[], _∷_}
+use borrow.Author.Needs.{needs}
+use Rattle.words.specs.Fields.{range}
+use Rattle.limits.proofs.wide_counts.Statement.{statement}
+use Rattle.limits.proofs.wide_counts.Tie as tie
+
+returns : tie.Need-returns
+returns c =
+    c .listed-counts .ensures (range 0 0 ∷ range 0 0 ∷ [])
+    (rw (
+      c .before .field2 .ensures,
+      c .before .before .in-range2 .ensures,
+      c .before .before .before .field .ensures,
+      c .before .before .before .before .in-range .ensures,
+    )
+    refl)
+
+pub wide-counts-spec : {M : Type 1} → statement M
+wide-counts-spec = tie.close (tie.spec (λ c κs. search needs) (λ c κs. search needs) (λ c κs. search needs) (λ c κs. search needs) (λ c κs. search needs) returns)

@@ -1,0 +1,15 @@
+use mathlib.Core.Path.{refl}
+use native.Mathlib.Omega.{arith}
+use borrow.Author.Needs.{needs}
+use Rattle.model.proofs.Editions.{kilonewton-editions}
+use Rattle.sections.proofs.effect_words.Statement.{statement}
+use Rattle.sections.proofs.effect_words.Tie as tie
+
+returns : tie.Need-returns
+returns c = rw (kilonewton-editions (c .before .args .head .edition) (c .match .keys1)) (refl, omega arith)
+
+returns-2 : tie.Need-returns-2
+returns-2 c = rw (c .enum-told .given .1) (refl, omega arith)
+
+pub effect-words-spec : {M : Type 1} → statement M
+effect-words-spec = tie.close (tie.spec (λ c. search needs) returns returns-2)
