@@ -7,13 +7,12 @@ use Prim.Native.Nat.{ℕ, _*_, _≤_, _<_}
 use native.Mathlib.Omega.{arith}
 use lib.IntN.{ℤ, pos}
 use Rattle.exact.specs.declared.Question.{Question}
-use Rattle.model.specs.Job.{Live, Limit}
-use Rattle.model.specs.Decode.{decode, effectAt, profileOf, rowCount, rowOf}
+use Rattle.model.specs.Job.{rural, Live, Limit}
+use Rattle.model.specs.Decode.{decode, effectAt, rowCount, rowOf}
 use Rattle.model.specs.Lanes.{lanes}
 use Rattle.model.specs.declared.State.{State}
 use Rattle.model.specs.Dynamic.{dynamicFactor}
-use Rattle.model.specs.Format.{headerOf, dynamicFits, sectionOf}
-use Rattle.model.specs.declared.Edition.the-variants.{Fourth}
+use Rattle.model.specs.Format.{profileOf, effectUnit, headerOf, dynamicFits, sectionOf}
 use Rattle.model.specs.declared.Header.{Header}
 use Rattle.model.specs.declared.Part.the-variants.{Line, Transverse, Effects, Rows, Records}
 use Rattle.model.proofs.Counts.{OneOf}
@@ -80,8 +79,8 @@ module _ {b : List ℕ} {head : Header} (ready : Ready b head) where
   tables = own (TablesFit (sectionOf b Effects) (sectionOf b Rows) (sectionOf b Records)) (tables-fit b (ready .accepted))
 
   -- a rural bridge has one lane
-  pub one-lane : head .edition ≡ Fourth → lanes (decode b) ≡ 1
-  one-lane = own (λ h. h .edition ≡ Fourth → lanes (decode b) ≡ 1) (accepted-one-lane b (ready .accepted))
+  pub one-lane : profileOf (head .edition) ≡ rural → lanes (decode b) ≡ 1
+  one-lane = own (λ h. profileOf (h .edition) ≡ rural → lanes (decode b) ≡ 1) (accepted-one-lane b (ready .accepted))
 
   -- its loads are its edition's
   pub profile-is : decode b .profile ≡ profileOf (head .edition)
@@ -108,11 +107,11 @@ module _ {b : List ℕ} {head : Header} (ready : Ready b head) where
     tables-found = rw (p, q, t) tables
 
     -- a state found in them is the job's
-    pub state-found : (traffic : Question → Live → ℤ) (limit : Limit) (x : State) → StateFound (effectAt e) (rowOf (head .edition) r s (head .records)) traffic limit (rowCount (head .edition) (head .rows)) x → StateFound (decode b .effect) (decode b .row) traffic limit (decode b .rows) x
+    pub state-found : (traffic : Question → Live → ℤ) (limit : Limit) (x : State) → StateFound (effectAt (effectUnit (head .edition)) e) (rowOf (profileOf (head .edition)) r s (head .records)) traffic limit (rowCount (profileOf (head .edition)) (head .rows)) x → StateFound (decode b .effect) (decode b .row) traffic limit (decode b .rows) x
     unfolding decode
     state-found traffic limit x f =
         let Found : Header → (effects rows records : List ℕ) → Type 0 =
-        λ h e r s. StateFound (effectAt e) (rowOf (h .edition) r s (h .records)) traffic limit (rowCount (h .edition) (h .rows)) x in
+        λ h e r s. StateFound (effectAt (effectUnit (h .edition)) e) (rowOf (profileOf (h .edition)) r s (h .records)) traffic limit (rowCount (profileOf (h .edition)) (h .rows)) x in
         subst (λ (h : Header). Found h (sectionOf b Effects) (sectionOf b Rows) (sectionOf b Records)) (ready .own)
         (subst (λ (l : List ℕ). Found head l (sectionOf b Rows) (sectionOf b Records)) p
         (subst (λ (l : List ℕ). Found head e l (sectionOf b Records)) q (subst (Found head e r) t f)))

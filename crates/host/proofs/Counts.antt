@@ -9,14 +9,12 @@ use borrow.Author.Tests.{ltb-true, ltb-false}
 use Rattle.exact.specs.declared.Question.{Question}
 use Rattle.exact.specs.declared.Question.the-variants.{Greatest, Least}
 use Rattle.exact.proofs.Bridge.{by-test}
-use Rattle.model.specs.Job.{Job, Limit, service, ultimate, Live, normal, overload, HasTraffic}
-use Rattle.model.specs.Format.{headerOf}
+use Rattle.model.specs.Job.{Profile, highway, rural, Job, Limit, service, ultimate, Live, normal, overload, HasTraffic}
+use Rattle.model.specs.Format.{profileOf, headerOf}
 use Rattle.model.specs.Decode.{rowCount, decode}
 use Rattle.model.specs.Lanes.{CentreFits, lanes, unit, highestIn}
 use Rattle.model.specs.Line.{HN, HO}
 use Rattle.model.specs.Answered.{Answered, refused, accepted, zeroTraffic, laneAt, trafficIn, extremeOf, stateIn, reported, reportedElement, reportedLoad, TrafficRight, StateRight}
-use Rattle.model.specs.declared.Edition.{Edition}
-use Rattle.model.specs.declared.Edition.the-variants.{First, Fourth}
 use Rattle.model.specs.declared.Answer.{Answer}
 use Rattle.model.specs.declared.Account.{Account}
 use Rattle.model.specs.declared.Entry.{Entry}
@@ -72,10 +70,10 @@ module _ (job : Job) (patch : List ℕ) (a : Account) (narrow : job .deck .width
   rows-fit limit Absent r = tt
   rows-fit limit (Reported greatest least) r = (omega (arith, r .0 .rowOf .last), omega (arith, r .1 .rowOf .last))
 
--- a job of any edition has at most 32 rows
-few-rows : (e : Edition) {given : ℕ} → given ≤ 32 → rowCount e given ≤ 32
-few-rows First h = h
-few-rows Fourth h = omega arith
+-- a job of any loads has at most 32 rows
+few-rows : (p : Profile) {given : ℕ} → given ≤ 32 → rowCount p given ≤ 32
+few-rows highway h = h
+few-rows rural h = omega arith
 
 pub counts-fit : {b before after : List ℕ} {x : Answer} → Answered b before x after → CountsFit (x .account)
 unfolding decode
@@ -94,8 +92,8 @@ counts-fit {b} {before} {after} {x} (accepted v r) =
     header : HeaderFits b
     header = header-fits b (clear b (job-accepted b _ v) .c2)
 
-    few : rowCount (headerOf b .edition) (headerOf b .rows) ≤ 32
-    few = few-rows (headerOf b .edition) (header .rows .most)
+    few : rowCount (profileOf (headerOf b .edition)) (headerOf b .rows) ≤ 32
+    few = few-rows (profileOf (headerOf b .edition)) (header .rows .most)
 
     centre : (q : Question) (live : Live) → HasTraffic live → (i : ℕ) → laneAt (extremeOf q (trafficIn (x .account) live) .placement) i .centre < 2 ^ 63
     centre q live h = centre-small (decode b) after (x .account) (header .wide .most) few (extremeOf q (trafficIn (x .account) live)) (r .account .traffic q live h)

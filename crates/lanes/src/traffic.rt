@@ -13,8 +13,7 @@ ghost use mathlib.Core.Path.{_≡_};
 ghost use Prim.Native.Nat.{_≤_, _<_};
 ghost use Rattle.exact.specs.Bounds.{Within};
 ghost use Rattle.model.specs.Job.{highway as highwayLoads, rural as ruralLoads, Job, Live, normal, overload};
-ghost use Rattle.model.specs.Decode.{profileOf};
-ghost use Rattle.model.specs.declared.Edition.the-variants.{Fourth};
+ghost use Rattle.model.specs.Format.{profileOf};
 ghost use Rattle.model.specs.Line.{HN, HO};
 ghost use Rattle.model.specs.Traffic.{effectOf};
 ghost use Rattle.magnitudes.specs.Magnitudes.{hnLineMost, hoLineMost, sumMost, trafficMost};
@@ -143,11 +142,11 @@ pub fn both(
     hn: Effects,
     ho: Effects,
 ) -> Extremes
-    requires { ⌜ AcrossFits across × (edition ≡ Fourth → across .lanes ≡ 1) × (1000 ≤ dynamic) × (dynamic ≤ 1300) × LineEffectsFit hnLineMost hn × LineEffectsFit hoLineMost ho ⌝ }
+    requires { ⌜ AcrossFits across × (profileOf edition ≡ ruralLoads → across .lanes ≡ 1) × (1000 ≤ dynamic) × (dynamic ≤ 1300) × LineEffectsFit hnLineMost hn × LineEffectsFit hoLineMost ho ⌝ }
     ensures { λ r. ⌜ Within trafficMost (r .normal .value) × Within trafficMost (r .overload .value) × ((job : Job) → Spanned job across → job .profile ≡ profileOf edition → dynamic ≡ job .dynamic q → hn ≡ effectsOf job HN → ho ≡ effectsOf job HO → TrafficPlaced q job normal (r .normal) × TrafficPlaced q job overload (r .overload)) ⌝ }
 {
     match edition {
-        Edition::First => highway(q, across, dynamic, hn, ho),
+        Edition::First | Edition::Second => highway(q, across, dynamic, hn, ho),
         Edition::Fourth => rural(q, across, dynamic, hn),
     }
 }

@@ -72,14 +72,18 @@ trafficMost = 1000000000000
 
 -- ---- rows
 
--- an effect's value in N·U: its word's 1000000000 kN·U
+-- an effect's value in N·U: refusal 6; a value in kN·U is at most a hundredth of it
 abbrev pub effectMost : ℕ
-effectMost = 1000 * 1000000000
+effectMost = 100000000000000
 
--- a share of a row's value in thousandths of N·U: a factor of at most 3000 times an effect or the traffic
+-- a share of a chain's value in thousandths of N·U: a factor of at most 3000 times an effect
 abbrev pub shareMost : ℕ
-shareMost = 3000 * 1000000000000
+shareMost = 3000 * effectMost
 
--- a chain's value: 16 shares, for a chain names each of at most 16 effects at most once
+-- a chain's value: 16 shares, 4.8e18, for a chain names each of at most 16 effects at most once
 abbrev pub chainMost : ℕ
 chainMost = 16 * shareMost
+
+-- a row's traffic: a factor of at most 3000 times a traffic value; with a chain it is below 2^63
+abbrev pub loadMost : ℕ
+loadMost = 3000 * trafficMost

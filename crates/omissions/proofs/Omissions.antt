@@ -11,7 +11,7 @@ use lib.Dec.{eqb}
 use lib.IntN.{ℤ, pos, _+ℤ_}
 use lib.ListN.{length}
 use lib.Pow.{pow-pos, pow-lt, pow-add, shl-shr}
-use Rattle.model.specs.Format.{bytes}
+use Rattle.model.specs.Format.{EffectUnit, bytes}
 use Rattle.model.specs.declared.Part.the-variants.{Records}
 use borrow.Author.Tests.{eqb-true, eq-eqb, ne-eqb}
 use Rattle.exact.specs.Bounds.{Within}
@@ -86,11 +86,11 @@ names-first t l = ap (λ (b : Bool). b || names l (t .effect)) (eq-eqb (t .effec
 names-later : (t : Term) (l : List Term) (e : ℕ) → names l e ≡ true → names (t ∷ l) e ≡ true
 names-later t l e n = ap (λ (b : Bool). eqb (t .effect) e || b) n ∙ or-true (eqb (t .effect) e)
 
-pub terms-named : (effects s : List ℕ) → RecordsInTables effects s → (most c : ℕ) → bytes Records * c ≤ length s → NamesTo 16 (termsFrom s most c)
+pub terms-named : (unit : EffectUnit) (effects s : List ℕ) → RecordsInTables unit effects s → (most c : ℕ) → bytes Records * c ≤ length s → NamesTo 16 (termsFrom s most c)
 unfolding chainFrom
-terms-named effects s fits zero c h = tt
-terms-named effects s fits (suc most) zero h = tt
-terms-named effects s fits (suc most) (suc c) h = let f = fits (suc c) (omega arith) h in (f .effect, f .most, terms-named effects s fits most (nextRecord s (suc c)) (f .next))
+terms-named unit effects s fits zero c h = tt
+terms-named unit effects s fits (suc most) zero h = tt
+terms-named unit effects s fits (suc most) (suc c) h = let f = fits (suc c) (omega arith) h in (f .effect, f .most, terms-named unit effects s fits most (nextRecord s (suc c)) (f .next))
 
 module _ (q : Question) (effect : ℕ → Effect) where
   -- the term may be left out, and that is better

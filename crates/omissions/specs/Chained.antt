@@ -4,7 +4,7 @@ use mathlib.Core.Path.{_≡_}
 use mathlib.Core.Bool.{Bool, _&&_}
 use mathlib.Core.List.{List}
 use lib.Bits.{bitOr}
-use lib.IntN.{pos, _+ℤ_}
+use lib.IntN.{pos, _+ℤ_, _*ℤ_}
 use Rattle.exact.specs.Bounds.{Within}
 use Rattle.exact.specs.Choice.{if_then_else_}
 use Rattle.exact.specs.Questions.{beats}
@@ -15,9 +15,15 @@ use Rattle.model.specs.Chains.{recordEffect, recordFactor}
 use Rattle.model.specs.Job.{Effect, Term}
 use Rattle.model.specs.Rows.{share, chainValue, MayOmit, bestChain}
 use Rattle.model.specs.Answered.{omits}
+use Rattle.omissions.specs.declared.Stated.{Stated}
 use Rattle.omissions.specs.declared.Share.{Share}
 use Rattle.omissions.specs.declared.Chained.{Chained}
 use Rattle.omissions.specs.declared.ChainedBoth.{ChainedBoth}
+
+-- an effect is stated right: its number of units is its value in N·U
+pub record StatedRight (effect : Effect) (x : Stated) : Type 0 where
+  pub value : x .unit *ℤ x .number ≡ effect .value
+  pub optional : x .optional ≡ effect .optional
 
 -- a term by its effect and its factor
 abbrev pub termOf : (e factor : ℕ) → Term

@@ -1,33 +1,72 @@
 // A chain's best value for each question, each effect marked 2 counting or left out: of a chain of records, or of a rural bridge's built-in row.
 use exact::Question;
+use model::Edition;
 ghost use mathlib.Core.Path.{_≡_};
-ghost use Prim.Native.Nat.{_-_, _*_, _^_, _≤_, _<_};
+ghost use Prim.Native.Nat.{_+_, _-_, _*_, _^_, _≤_, _<_};
+ghost use lib.Dec.{eqb};
 ghost use lib.ListN.{length};
 ghost use Rattle.exact.specs.Bounds.{Within};
 ghost use Rattle.exact.specs.declared.Question.{Question};
-ghost use Rattle.model.specs.Format.{bytes};
-ghost use Rattle.model.specs.declared.Part.the-variants.{Effects, Records};
-ghost use Rattle.magnitudes.specs.Magnitudes.{effectMost, shareMost, chainMost};
+ghost use Rattle.words.specs.Words.{countAt};
+ghost use Rattle.model.specs.Format.{bytes, kilonewtons, newtons, effectUnit, effectBytes};
+ghost use Rattle.model.specs.declared.Part.the-variants.{Records};
+ghost use Rattle.magnitudes.specs.Magnitudes.{shareMost, chainMost};
 ghost use Rattle.model.specs.Decode.{effectAt, termsFrom};
 ghost use Rattle.model.specs.RuralBridges.{groupRow};
 ghost use Rattle.groups.specs.FactorLines.{lineRow, lineAlternative};
 ghost use Rattle.omissions.specs.ChainTables.{Distinct, EffectsInReach, RecordsInTables};
-ghost use Rattle.omissions.specs.Chained.{termOf, ShareRight, leavesShare, extendedBy, chainFor, ChainRight};
+ghost use Rattle.omissions.specs.Chained.{StatedRight, termOf, ShareRight, leavesShare, extendedBy, chainFor, ChainRight};
 
-// Effect e's value in N·U.
-fn effect_value(effects: &[u8], e: usize) -> i64
-    requires { ⌜ EffectsInReach (now effects) × (1 ≤ e) × (bytes Effects * e ≤ length (now effects)) ⌝ }
-    ensures { λ r. ⌜ (r ≡ effectAt (now (effects .entry)) e .value) × Within effectMost r ⌝ }
-{
-    1000 * words::word(effects, model::EFFECT_WORDS * (e - 1))
+// An effect as its job states it: so many units, a unit in N·U, and whether it may be left out.
+pub struct Stated {
+    pub number: i64,
+    pub unit: i64,
+    pub optional: bool,
 }
 
-// Effect e may be left out.
-fn optional(effects: &[u8], e: usize) -> bool
-    requires { ⌜ (1 ≤ e) × (bytes Effects * e ≤ length (now effects)) ⌝ }
-    ensures { λ r. ⌜ r ≡ effectAt (now (effects .entry)) e .optional ⌝ }
+// The mark at place p says that its effect may be left out.
+fn optional(effects: &[u8], p: usize) -> bool
+    requires { ⌜ 4 * p + 4 ≤ length (now effects) ⌝ }
+    ensures { λ r. ⌜ r ≡ eqb (countAt (now (effects .entry)) p) 2 ⌝ }
 {
-    words::count(effects, model::EFFECT_WORDS * (e - 1) + 1) == 2
+    words::count(effects, p) == 2
+}
+
+// Effect e of an effect section in kN·U.
+fn in_kilonewtons(effects: &[u8], e: usize) -> Stated
+    requires { ⌜ (1 ≤ e) × (effectBytes kilonewtons * e ≤ length (now effects)) ⌝ }
+    ensures { λ r. ⌜ StatedRight (effectAt kilonewtons (now (effects .entry)) e) r ⌝ }
+{
+    let p = model::EFFECT_WORDS * (e - 1);
+    Stated {
+        number: words::word(effects, p),
+        unit: 1000,
+        optional: optional(effects, p + 1),
+    }
+}
+
+// Effect e of an effect section in N·U.
+fn in_newtons(effects: &[u8], e: usize) -> Stated
+    requires { ⌜ (1 ≤ e) × (effectBytes newtons * e ≤ length (now effects)) ⌝ }
+    ensures { λ r. ⌜ StatedRight (effectAt newtons (now (effects .entry)) e) r ⌝ }
+{
+    let p = model::WIDE_EFFECT_WORDS * (e - 1);
+    Stated {
+        number: words::wide(effects, p),
+        unit: 1,
+        optional: optional(effects, p + 2),
+    }
+}
+
+// Effect e of an edition's effect section.
+fn effect(effects: &[u8], edition: Edition, e: usize) -> Stated
+    requires { ⌜ (1 ≤ e) × (effectBytes (effectUnit edition) * e ≤ length (now effects)) ⌝ }
+    ensures { λ r. ⌜ StatedRight (effectAt (effectUnit edition) (now (effects .entry)) e) r ⌝ }
+{
+    match edition {
+        Edition::First | Edition::Fourth => in_kilonewtons(effects, e),
+        Edition::Second => in_newtons(effects, e),
+    }
 }
 
 // Effect e's bit among those left out, effect 1's the lowest.
@@ -46,13 +85,14 @@ pub struct Share {
 }
 
 // Effect e's share by its factor in thousandths.
-fn share_of(effects: &[u8], e: usize, factor: usize) -> Share
-    requires { ⌜ EffectsInReach (now effects) × (1 ≤ e) × (e ≤ 16) × (bytes Effects * e ≤ length (now effects)) × (factor ≤ 3000) ⌝ }
-    ensures { λ r. ⌜ ShareRight (effectAt (now (effects .entry))) (termOf e factor) r ⌝ }
+fn share_of(effects: &[u8], edition: Edition, e: usize, factor: usize) -> Share
+    requires { ⌜ EffectsInReach (effectUnit edition) (now effects) × (1 ≤ e) × (e ≤ 16) × (effectBytes (effectUnit edition) * e ≤ length (now effects)) × (factor ≤ 3000) ⌝ }
+    ensures { λ r. ⌜ ShareRight (effectAt (effectUnit edition) (now (effects .entry))) (termOf e factor) r ⌝ }
 {
+    let own = effect(effects, edition, e);
     Share {
-        value: (factor as i64) * effect_value(effects, e),
-        optional: optional(effects, e),
+        value: (factor as i64) * (own.unit * own.number),
+        optional: own.optional,
         bit: bit_of(e),
     }
 }
@@ -97,9 +137,15 @@ pub struct ChainedBoth {
 }
 
 // The best of the chain from a first record, of at most so many records.
-pub fn best(effects: &[u8], records: &[u8], first: usize, count: usize) -> ChainedBoth
-    requires { ⌜ EffectsInReach (now effects) × RecordsInTables (now effects) (now records) × (bytes Records * first ≤ length (now records)) × Distinct (termsFrom (now records) count first) ⌝ }
-    ensures { λ r. ⌜ ((q : Question) → ChainRight q (effectAt (now (effects .entry))) (termsFrom (now (records .entry)) count first) (chainFor q r)) ⌝ }
+pub fn best(
+    effects: &[u8],
+    edition: Edition,
+    records: &[u8],
+    first: usize,
+    count: usize,
+) -> ChainedBoth
+    requires { ⌜ EffectsInReach (effectUnit edition) (now effects) × RecordsInTables (effectUnit edition) (now effects) (now records) × (bytes Records * first ≤ length (now records)) × Distinct (termsFrom (now records) count first) ⌝ }
+    ensures { λ r. ⌜ ((q : Question) → ChainRight q (effectAt (effectUnit edition) (now (effects .entry))) (termsFrom (now (records .entry)) count first) (chainFor q r)) ⌝ }
 {
     let mut greatest = Chained {
         value: 0,
@@ -115,7 +161,7 @@ pub fn best(effects: &[u8], records: &[u8], first: usize, count: usize) -> Chain
             return ChainedBoth { greatest, least };
         }
         let e = chains::effect(records, c);
-        let own = share_of(effects, e, chains::factor(records, c));
+        let own = share_of(effects, edition, e, chains::factor(records, c));
         greatest = extended(Question::Greatest, own, greatest);
         least = extended(Question::Least, own, least);
         c = chains::next(records, c);
@@ -125,8 +171,8 @@ pub fn best(effects: &[u8], records: &[u8], first: usize, count: usize) -> Chain
 
 // The best of the chain of a line of the table of rural bridges' factors; a share of factor 0 changes nothing.
 pub fn of_group(effects: &[u8], line: usize) -> ChainedBoth
-    requires { ⌜ EffectsInReach (now effects) × (bytes Effects * 11 ≤ length (now effects)) × (line < 21) ⌝ }
-    ensures { λ r. ⌜ ((q : Question) → ChainRight q (effectAt (now (effects .entry))) (groupRow (lineRow line) .chain (lineAlternative line)) (chainFor q r)) ⌝ }
+    requires { ⌜ EffectsInReach kilonewtons (now effects) × (effectBytes kilonewtons * 11 ≤ length (now effects)) × (line < 21) ⌝ }
+    ensures { λ r. ⌜ ((q : Question) → ChainRight q (effectAt kilonewtons (now (effects .entry))) (groupRow (lineRow line) .chain (lineAlternative line)) (chainFor q r)) ⌝ }
 {
     let mut greatest = Chained {
         value: 0,
@@ -139,7 +185,7 @@ pub fn of_group(effects: &[u8], line: usize) -> ChainedBoth
     let factors = groups::factors(line);
     for i in 0usize..11 {
         let e = i + 1;
-        let own = share_of(effects, e, factors[e] as usize);
+        let own = share_of(effects, Edition::Fourth, e, factors[e] as usize);
         greatest = extended(Question::Greatest, own, greatest);
         least = extended(Question::Least, own, least);
     }

@@ -5,10 +5,10 @@ use mathlib.Core.List.{List}
 use Prim.Native.Nat.{ℕ, _+_, _-_, _*_, _≤_}
 use native.Mathlib.Omega.{arith}
 use lib.ListN.{length}
-use Rattle.model.specs.Format.{headerOf, words, bytes, sectionOf}
+use Rattle.model.specs.Format.{profileOf, EffectUnit, kilonewtons, newtons, effectUnit, headerOf, effectFields, words, effectBytes, sectionOf}
+use Rattle.model.specs.Job.{Profile, rural}
 use Rattle.model.specs.Decode.{firstRecord}
 use Rattle.model.specs.Refusals.{jobVerdict, chainReturns, chainNamesTwice}
-use Rattle.model.specs.declared.Edition.the-variants.{Fourth}
 use Rattle.model.specs.declared.Part.{Part}
 use Rattle.model.specs.declared.Part.the-variants.{Effects, Rows, Records}
 use Rattle.model.proofs.Sections.{section-length}
@@ -19,6 +19,11 @@ use Rattle.omissions.specs.ChainTables.{EffectsInReach, RecordsInTables}
 use Rattle.rows.specs.Tables.{RowInTables, TablesFit}
 use Rattle.omissions.proofs.Terms.{distinct-terms}
 
+-- effect e is one of n where its bytes are in theirs, and only there
+effect-inside : (u : EffectUnit) (p : Profile) (n e : ℕ) → let bytes = 4 * (length (effectFields u p) * n) in (effectBytes u * e ≤ bytes → e ≤ n) × (e ≤ n → effectBytes u * e ≤ bytes)
+effect-inside kilonewtons p n e = (λ h. omega arith, λ h. omega arith)
+effect-inside newtons p n e = (λ h. omega arith, λ h. omega arith)
+
 module _ (b : List ℕ) (accepted : jobVerdict b ≡ none) where
   c : Clear b
   c = clear b accepted
@@ -26,17 +31,24 @@ module _ (b : List ℕ) (accepted : jobVerdict b ≡ none) where
   long : (part : Part) → length (sectionOf b part) ≡ 4 * words (headerOf b) part
   long part = section-length b (headerOf b) part (part-inside b (size-fits b (c .c1) (c .c3)) part)
 
-  effects : EffectsInReach (sectionOf b Effects)
-  effects e h k = effect-fits b (c .c6) (e - 1) (omega (arith, long Effects)) .value
+  -- the effects' unit
+  abbrev unit : EffectUnit
+  unit = effectUnit (headerOf b .edition)
 
-  records : RecordsInTables (sectionOf b Effects) (sectionOf b Records)
+  inside : (e : ℕ) → (effectBytes unit * e ≤ length (sectionOf b Effects) → e ≤ headerOf b .effects) × (e ≤ headerOf b .effects → effectBytes unit * e ≤ length (sectionOf b Effects))
+  inside e = rw (long Effects) (effect-inside unit (profileOf (headerOf b .edition)) (headerOf b .effects) e)
+
+  effects : EffectsInReach unit (sectionOf b Effects)
+  effects e h k = effect-fits b (c .c6) (e - 1) (omega (arith, inside e .0 k))
+
+  records : RecordsInTables unit (sectionOf b Effects) (sectionOf b Records)
   records r h k =
       let f = record-fits b (c .c6) (r - 1) (omega (arith, long Records)) in
       let most = header-fits b (c .c2) .effects .most in
       record {
         effect = f .effect .least;
         most = omega (arith, f .effect .most);
-        there = omega (arith, f .effect .most, long Effects);
+        there = inside _ .1 (f .effect .most);
         factor = f .factor .most;
         next = omega (arith, f .next .most, long Records);
       }
@@ -55,8 +67,8 @@ module _ (b : List ℕ) (accepted : jobVerdict b ≡ none) where
             (ap (chainReturns b) (sym same) ∙ no-return b (c .c7) (r - 1) (omega arith)) (ap (chainNamesTwice b) (sym same) ∙ no-repeat b (c .c7) (r - 1) (omega arith) (c .c8));
       }
 
-  eleven : headerOf b .edition ≡ Fourth → bytes Effects * 11 ≤ length (sectionOf b Effects)
-  eleven e = omega (arith, long Effects, header-fits b (c .c2) .eleven e)
+  eleven : profileOf (headerOf b .edition) ≡ rural → effectBytes unit * 11 ≤ length (sectionOf b Effects)
+  eleven e = inside 11 .1 (omega (arith, header-fits b (c .c2) .eleven e))
 
   pub tables-fit : TablesFit (sectionOf b Effects) (sectionOf b Rows) (sectionOf b Records) (headerOf b)
   tables-fit = record { effects = effects; records = records; long = omega (arith, long Rows); rows = rows; eleven = eleven }

@@ -4,10 +4,10 @@ use mathlib.Core.Path.{_≡_}
 use mathlib.Core.List.{List}
 use lib.ListN.{length}
 use Rattle.words.specs.Words.{countAt}
-use Rattle.model.specs.Format.{size, bytes}
-use Rattle.model.specs.declared.Edition.the-variants.{Fourth}
+use Rattle.model.specs.Job.{rural}
+use Rattle.model.specs.Format.{profileOf, effectUnit, size, bytes, effectBytes}
 use Rattle.model.specs.declared.Header.{Header}
-use Rattle.model.specs.declared.Part.the-variants.{Effects, Rows, Records}
+use Rattle.model.specs.declared.Part.the-variants.{Rows, Records}
 use Rattle.model.specs.Decode.{firstRecord, termsFrom}
 use Rattle.omissions.specs.ChainTables.{Distinct, EffectsInReach, RecordsInTables}
 
@@ -20,8 +20,8 @@ pub record RowInTables (records : List ℕ) (count : ℕ) (s : List ℕ) (r : �
 
 -- the three sections together, by the job's header: the rows that it gives, with chains of at most as many records as it gives, and a rural bridge's eleven effects
 pub record TablesFit (e w s : List ℕ) (head : Header) : Type 0 where
-  pub effects : EffectsInReach e
-  pub records : RecordsInTables e s
+  pub effects : EffectsInReach (effectUnit (head .edition)) e
+  pub records : RecordsInTables (effectUnit (head .edition)) e s
   pub long : bytes Rows * head .rows ≤ length w
   pub rows : (r : ℕ) → 1 ≤ r → r ≤ head .rows → RowInTables s (head .records) w r
-  pub eleven : head .edition ≡ Fourth → bytes Effects * 11 ≤ length e
+  pub eleven : profileOf (head .edition) ≡ rural → effectBytes (effectUnit (head .edition)) * 11 ≤ length e

@@ -14,9 +14,9 @@ ghost use lib.ListN.{length};
 ghost use Rattle.exact.specs.Bounds.{Within};
 ghost use Rattle.exact.specs.Choice.{if_then_else_};
 ghost use Rattle.exact.specs.declared.Question.{Question};
-ghost use Rattle.model.specs.Format.{size, bytes};
-ghost use Rattle.model.specs.declared.Part.the-variants.{Effects, Rows};
-ghost use Rattle.magnitudes.specs.Magnitudes.{trafficMost, shareMost, chainMost};
+ghost use Rattle.model.specs.Format.{profileOf, kilonewtons, effectUnit, size, bytes, effectBytes};
+ghost use Rattle.model.specs.declared.Part.the-variants.{Rows};
+ghost use Rattle.magnitudes.specs.Magnitudes.{trafficMost, chainMost, loadMost};
 ghost use Rattle.words.specs.Words.{countAt};
 ghost use Rattle.model.specs.Decode.{effectAt, liveOf, firstRecord, rowAt, rowCount, rowOf};
 ghost use Rattle.model.specs.Job.{Limit, service, ultimate};
@@ -63,7 +63,7 @@ fn word(rows: &[u8], r: usize, j: usize) -> usize
 // Row r's traffic: its live factor times the value of its live kind.
 fn loaded(rows: &[u8], r: usize, live: LiveValues) -> i64
     requires { ⌜ (1 ≤ r) × (bytes Rows * r ≤ length (now rows)) × (countAt (now rows) (size Rows * (r - 1) + 1) ≤ 2) × (countAt (now rows) (size Rows * (r - 1) + 2) ≤ 3000) × PairFits live ⌝ }
-    ensures { λ x. ⌜ (x ≡ pos (countAt (now (rows .entry)) (size Rows * (r - 1) + 2)) *ℤ liveValue live (liveOf (countAt (now (rows .entry)) (size Rows * (r - 1) + 1)))) × Within shareMost x ⌝ }
+    ensures { λ x. ⌜ (x ≡ pos (countAt (now (rows .entry)) (size Rows * (r - 1) + 2)) *ℤ liveValue live (liveOf (countAt (now (rows .entry)) (size Rows * (r - 1) + 1)))) × Within loadMost x ⌝ }
 {
     let kind = word(rows, r, 1);
     let factor = word(rows, r, 2);
@@ -72,7 +72,7 @@ fn loaded(rows: &[u8], r: usize, live: LiveValues) -> i64
 
 // Row r, which shows k, by its chain and its traffic, which counts or is left out.
 fn laden(q: Question, r: usize, k: u16, chain: Chained, loaded: i64) -> Governing
-    requires { ⌜ Within chainMost (chain .value) × Within shareMost loaded ⌝ }
+    requires { ⌜ Within chainMost (chain .value) × Within loadMost loaded ⌝ }
     ensures { λ x. ⌜ x ≡ ladenRow q r k chain loaded ⌝ }
 {
     if exact::beats(q, 0, loaded) {
@@ -101,7 +101,7 @@ pub struct RowBoth {
 
 // Row r, which shows k, by its chain and its traffic for each question.
 fn laden_both(r: usize, k: u16, chains: ChainedBoth, most: i64, lowest: i64) -> RowBoth
-    requires { ⌜ Within chainMost (chains .greatest .value) × Within chainMost (chains .least .value) × Within shareMost most × Within shareMost lowest ⌝ }
+    requires { ⌜ Within chainMost (chains .greatest .value) × Within chainMost (chains .least .value) × Within loadMost most × Within loadMost lowest ⌝ }
     ensures { λ x. ⌜ (x .greatest ≡ ladenRow Question.Greatest r k (chains .greatest) most) × (x .least ≡ ladenRow Question.Least r k (chains .least) lowest) ⌝ }
 {
     RowBoth {
@@ -123,14 +123,21 @@ fn listed(
     effects: &[u8],
     rows: &[u8],
     records: &[u8],
-    count: usize,
+    head: Header,
     live: LiveBoth,
     r: usize,
 ) -> RowBoth
-    requires { ⌜ EffectsInReach (now effects) × RecordsInTables (now effects) (now records) × (1 ≤ r) × (bytes Rows * r ≤ length (now rows)) × RowInTables (now records) count (now rows) r × LiveFits live ⌝ }
-    ensures { λ x. ⌜ ((q : Question) → (rowFor q x .row ≡ r) × RowRight q (effectAt (now (effects .entry))) (rowAt (now (rows .entry)) (now (records .entry)) count) (trafficOf live q) (rowFor q x)) ⌝ }
+    requires { ⌜ EffectsInReach (effectUnit (head .edition)) (now effects) × RecordsInTables (effectUnit (head .edition)) (now effects) (now records) × (1 ≤ r) × (bytes Rows * r ≤ length (now rows)) × RowInTables (now records) (head .records) (now rows) r × LiveFits live ⌝ }
+    ensures { λ x. ⌜ ((q : Question) → (rowFor q x .row ≡ r) × RowRight q (effectAt (effectUnit (head .edition)) (now (effects .entry))) (rowAt (now (rows .entry)) (now (records .entry)) (head .records)) (trafficOf live q) (rowFor q x)) ⌝ }
 {
-    let c = omissions::best(effects, records, first_record(rows, r), count);
+    let edition = head.edition;
+    let c = omissions::best(
+        effects,
+        edition,
+        records,
+        first_record(rows, r),
+        head.records,
+    );
     let most = loaded(rows, r, live.greatest);
     let least = loaded(rows, r, live.least);
     laden_both(r, 0, c, most, least)
@@ -162,7 +169,7 @@ fn later_both(sofar: RowBoth, next: RowBoth) -> RowBoth
 // The traffic of a line of the factors of rural bridges: its live factor times the value of the normal kind.
 fn line_loaded(line: usize, live: LiveValues) -> i64
     requires { ⌜ (line < 21) × PairFits live ⌝ }
-    ensures { λ x. ⌜ (x ≡ pos (groupRow (lineRow line) .factor) *ℤ liveValue live (groupRow (lineRow line) .live)) × Within shareMost x ⌝ }
+    ensures { λ x. ⌜ (x ≡ pos (groupRow (lineRow line) .factor) *ℤ liveValue live (groupRow (lineRow line) .live)) × Within loadMost x ⌝ }
 {
     let factors = groups::factors(line);
     (factors[0] as i64) * live.normal
@@ -170,8 +177,8 @@ fn line_loaded(line: usize, live: LiveValues) -> i64
 
 // Row r, which shows k, by a line of the factors of rural bridges, for each question.
 fn by_line(effects: &[u8], line: usize, r: usize, k: u16, live: LiveBoth) -> RowBoth
-    requires { ⌜ EffectsInReach (now effects) × (bytes Effects * 11 ≤ length (now effects)) × (line < 21) × LiveFits live ⌝ }
-    ensures { λ x. ⌜ ((q : Question) → (rowFor q x .row ≡ r) × (rowFor q x .k ≡ k) × AlternativeRight q (effectAt (now (effects .entry))) (groupRow (lineRow line)) (trafficOf live q) (lineAlternative line) (rowFor q x)) ⌝ }
+    requires { ⌜ EffectsInReach kilonewtons (now effects) × (effectBytes kilonewtons * 11 ≤ length (now effects)) × (line < 21) × LiveFits live ⌝ }
+    ensures { λ x. ⌜ ((q : Question) → (rowFor q x .row ≡ r) × (rowFor q x .k ≡ k) × AlternativeRight q (effectAt kilonewtons (now (effects .entry))) (groupRow (lineRow line)) (trafficOf live q) (lineAlternative line) (rowFor q x)) ⌝ }
 {
     let c = omissions::of_group(effects, line);
     let most = line_loaded(line, live.greatest);
@@ -181,8 +188,8 @@ fn by_line(effects: &[u8], line: usize, r: usize, k: u16, live: LiveBoth) -> Row
 
 // Row r of a rural bridge by its better alternative for each question: row 16 has one with k 1.3 and one with k 0.8.
 fn built_in(effects: &[u8], live: LiveBoth, r: usize) -> RowBoth
-    requires { ⌜ EffectsInReach (now effects) × (bytes Effects * 11 ≤ length (now effects)) × (1 ≤ r) × (r ≤ groupRows) × LiveFits live ⌝ }
-    ensures { λ x. ⌜ ((q : Question) → (rowFor q x .row ≡ r) × RowRight q (effectAt (now (effects .entry))) groupRow (trafficOf live q) (rowFor q x)) ⌝ }
+    requires { ⌜ EffectsInReach kilonewtons (now effects) × (effectBytes kilonewtons * 11 ≤ length (now effects)) × (1 ≤ r) × (r ≤ groupRows) × LiveFits live ⌝ }
+    ensures { λ x. ⌜ ((q : Question) → (rowFor q x .row ≡ r) × RowRight q (effectAt kilonewtons (now (effects .entry))) groupRow (trafficOf live q) (rowFor q x)) ⌝ }
 {
     if r == 16 {
         let first = by_line(effects, 15, r, 1300, live);
@@ -201,12 +208,12 @@ fn row(
     live: LiveBoth,
     r: usize,
 ) -> RowBoth
-    requires { ⌜ TablesFit (now effects) (now rows) (now records) head × (1 ≤ r) × (r ≤ rowCount (head .edition) (head .rows)) × LiveFits live ⌝ }
-    ensures { λ x. ⌜ ((q : Question) → (rowFor q x .row ≡ r) × RowRight q (effectAt (now (effects .entry))) (rowOf (head .edition) (now (rows .entry)) (now (records .entry)) (head .records)) (trafficOf live q) (rowFor q x)) ⌝ }
+    requires { ⌜ TablesFit (now effects) (now rows) (now records) head × (1 ≤ r) × (r ≤ rowCount (profileOf (head .edition)) (head .rows)) × LiveFits live ⌝ }
+    ensures { λ x. ⌜ ((q : Question) → (rowFor q x .row ≡ r) × RowRight q (effectAt (effectUnit (head .edition)) (now (effects .entry))) (rowOf (profileOf (head .edition)) (now (rows .entry)) (now (records .entry)) (head .records)) (trafficOf live q) (rowFor q x)) ⌝ }
 {
     let edition = head.edition;
     match edition {
-        Edition::First => listed(effects, rows, records, head.records, live, r),
+        Edition::First | Edition::Second => listed(effects, rows, records, head, live, r),
         Edition::Fourth => built_in(effects, live, r),
     }
 }
@@ -237,23 +244,23 @@ fn with_row(service: bool, sofar: Found, next: RowBoth) -> Found
 
 // Row r is of the service state.
 fn of_service(rows: &[u8], head: Header, r: usize) -> bool
-    requires { ⌜ (1 ≤ r) × (r ≤ rowCount (head .edition) (head .rows)) × (bytes Rows * head .rows ≤ length (now rows)) ⌝ }
-    ensures { λ b. ⌜ ((records : List ℕ) → rowOf (head .edition) (now (rows .entry)) records (head .records) r .limit ≡ (if b then service else ultimate)) ⌝ }
+    requires { ⌜ (1 ≤ r) × (r ≤ rowCount (profileOf (head .edition)) (head .rows)) × (bytes Rows * head .rows ≤ length (now rows)) ⌝ }
+    ensures { λ b. ⌜ ((records : List ℕ) → rowOf (profileOf (head .edition)) (now (rows .entry)) records (head .records) r .limit ≡ (if b then service else ultimate)) ⌝ }
 {
     let edition = head.edition;
     match edition {
-        Edition::First => word(rows, r, 0) == 1,
+        Edition::First | Edition::Second => word(rows, r, 0) == 1,
         Edition::Fourth => r <= 10,
     }
 }
 
 // How many rows the job has.
 fn row_count(head: Header) -> usize
-    ensures { λ n. ⌜ n ≡ rowCount (head .edition) (head .rows) ⌝ }
+    ensures { λ n. ⌜ n ≡ rowCount (profileOf (head .edition)) (head .rows) ⌝ }
 {
     let edition = head.edition;
     match edition {
-        Edition::First => head.rows,
+        Edition::First | Edition::Second => head.rows,
         Edition::Fourth => 20,
     }
 }
@@ -261,7 +268,7 @@ fn row_count(head: Header) -> usize
 // The governing rows among all of the job's.
 fn governing(effects: &[u8], rows: &[u8], records: &[u8], head: Header, live: LiveBoth) -> Found
     requires { ⌜ TablesFit (now effects) (now rows) (now records) head × LiveFits live ⌝ }
-    ensures { λ x. ⌜ FoundRight (effectAt (now (effects .entry))) (rowOf (head .edition) (now (rows .entry)) (now (records .entry)) (head .records)) (trafficOf live) (rowCount (head .edition) (head .rows)) x ⌝ }
+    ensures { λ x. ⌜ FoundRight (effectAt (effectUnit (head .edition)) (now (effects .entry))) (rowOf (profileOf (head .edition)) (now (rows .entry)) (now (records .entry)) (head .records)) (trafficOf live) (rowCount (profileOf (head .edition)) (head .rows)) x ⌝ }
 {
     let none = Governing {
         value: 0,
@@ -313,7 +320,7 @@ pub fn states(
     live: LiveBoth,
 ) -> LimitStates
     requires { ⌜ TablesFit (now effects) (now rows) (now records) head × LiveFits live ⌝ }
-    ensures { λ s. ⌜ ((limit : Limit) → StateFound (effectAt (now (effects .entry))) (rowOf (head .edition) (now (rows .entry)) (now (records .entry)) (head .records)) (trafficOf live) limit (rowCount (head .edition) (head .rows)) (stateFor limit s)) ⌝ }
+    ensures { λ s. ⌜ ((limit : Limit) → StateFound (effectAt (effectUnit (head .edition)) (now (effects .entry))) (rowOf (profileOf (head .edition)) (now (rows .entry)) (now (records .entry)) (head .records)) (trafficOf live) limit (rowCount (profileOf (head .edition)) (head .rows)) (stateFor limit s)) ⌝ }
 {
     let found = governing(effects, rows, records, head, live);
     let served = found.service;

@@ -11,7 +11,7 @@ use Rattle.model.specs.Chains.{recordFactor}
 use Rattle.model.specs.Decode.{effectAt, termsFrom}
 use Rattle.omissions.specs.ChainTables.{NamesTo, RecordInTables}
 use Rattle.omissions.specs.Chained.{termOf, termAt, ShareRight, chainFor, ChainRight}
-use Rattle.model.specs.Format.{bytes}
+use Rattle.model.specs.Format.{effectUnit, bytes}
 use Rattle.model.specs.declared.Part.the-variants.{Records}
 use Rattle.omissions.proofs.Terms.{terms-none, terms-spent}
 use Rattle.omissions.proofs.Omissions.{terms-named, Sofar, sofar-start, sofar-next, sofar-near, sofar-all}
@@ -20,19 +20,19 @@ use Rattle.omissions.proofs.best.Statement.{statement}
 use Rattle.omissions.proofs.best.Tie as tie
 
 abbrev Inv-loop : tie.InvT-loop
-Inv-loop effects records first count greatest₀ least₀ c₀ counter₀ greatest least c counter =
-    Sofar Greatest (effectAt effects) (termsFrom records count first) (termsFrom records (count - counter) c) counter greatest
-    × Sofar Least (effectAt effects) (termsFrom records count first) (termsFrom records (count - counter) c) counter least
+Inv-loop effects edition records first count greatest₀ least₀ c₀ counter₀ greatest least c counter =
+    Sofar Greatest (effectAt (effectUnit edition) effects) (termsFrom records count first) (termsFrom records (count - counter) c) counter greatest
+    × Sofar Least (effectAt (effectUnit edition) effects) (termsFrom records count first) (termsFrom records (count - counter) c) counter least
     × (counter ≤ count) × (bytes Records * c ≤ length records)
 
 abbrev μ-loop : tie.MeasureT-loop
-μ-loop effects records first count greatest₀ least₀ c₀ counter₀ greatest least c counter = count - counter
+μ-loop effects edition records first count greatest₀ least₀ c₀ counter₀ greatest least c counter = count - counter
 
 loop-holds : tie.Need-loop-holds Inv-loop μ-loop
 loop-holds c =
     let s = c .before .before in
     let a = s .args in
-    (sofar-start Greatest (effectAt (a .effects .now)) (a .records .now) (a .count) (a .first), sofar-start Least (effectAt (a .effects .now)) (a .records .now) (a .count) (a .first), omega arith, s .pre .2)
+    (sofar-start Greatest (effectAt (effectUnit (a .edition)) (a .effects .now)) (a .records .now) (a .count) (a .first), sofar-start Least (effectAt (effectUnit (a .edition)) (a .effects .now)) (a .records .now) (a .count) (a .first), omega arith, s .pre .2)
 
 -- at the loop
 module _ (c : tie.At-loop Inv-loop μ-loop) where
@@ -40,12 +40,12 @@ module _ (c : tie.At-loop Inv-loop μ-loop) where
   s = c .before .before .before
 
   named : NamesTo 16 (termsFrom (s .args .records .now) (s .args .count) (s .args .first))
-  named = terms-named (s .args .effects .now) (s .args .records .now) (s .pre .1) (s .args .count) (s .args .first) (s .pre .2)
+  named = terms-named (effectUnit (s .args .edition)) (s .args .effects .now) (s .args .records .now) (s .pre .1) (s .args .count) (s .args .first) (s .pre .2)
 
   -- nothing is left
   ended : termsFrom (s .args .records .now) (s .args .count - c .loop .counter) (c .loop .c) ≡ [] → (q : Question) →
-      ChainRight q (effectAt (s .args .effects .now)) (termsFrom (s .args .records .now) (s .args .count) (s .args .first)) (chainFor q (record { greatest = c .loop .greatest; least = c .loop .least }))
-  ended none = by-question _ (sofar-all Greatest (effectAt (s .args .effects .now)) (c .loop .inv .0) (s .pre .3) named none) (sofar-all Least (effectAt (s .args .effects .now)) (c .loop .inv .1) (s .pre .3) named none)
+      ChainRight q (effectAt (effectUnit (s .args .edition)) (s .args .effects .now)) (termsFrom (s .args .records .now) (s .args .count) (s .args .first)) (chainFor q (record { greatest = c .loop .greatest; least = c .loop .least }))
+  ended none = by-question _ (sofar-all Greatest (effectAt (effectUnit (s .args .edition)) (s .args .effects .now)) (c .loop .inv .0) (s .pre .3) named none) (sofar-all Least (effectAt (effectUnit (s .args .edition)) (s .args .effects .now)) (c .loop .inv .1) (s .pre .3) named none)
 
 returns : tie.Need-returns Inv-loop μ-loop
 returns c = let l = c .before .before in ended l (terms-none (s l .args .records .now) (s l .args .count - l .loop .counter) (l .loop .c) (c .if1 .taken))
@@ -61,7 +61,7 @@ module _ (c : tie.After-effect Inv-loop μ-loop) where
   first : 1 ≤ at .loop .c
   first = pos-of-ne-zero (else .if1 .left)
 
-  fits : RecordInTables (s at .args .effects .now) (s at .args .records .now) (at .loop .c)
+  fits : RecordInTables (effectUnit (s at .args .edition)) (s at .args .effects .now) (s at .args .records .now) (at .loop .c)
   fits = s at .pre .1 (at .loop .c) first (at .loop .inv .3)
 
 factor-requires : tie.Need-factor-requires Inv-loop μ-loop
@@ -78,9 +78,9 @@ module _ (c : tie.After-share-of Inv-loop μ-loop) where
   abbrev d : tie.After-effect Inv-loop μ-loop
   d = c .before .before
 
-  own : ShareRight (effectAt (s (at d) .args .effects .now)) (termAt (s (at d) .args .records .now) (at d .loop .c)) (c .share-of .result)
+  own : ShareRight (effectAt (effectUnit (s (at d) .args .edition)) (s (at d) .args .effects .now)) (termAt (s (at d) .args .records .now) (at d .loop .c)) (c .share-of .result)
   own =
-      let effect = effectAt (s (at d) .args .effects .now) in
+      let effect = effectAt (effectUnit (s (at d) .args .edition)) (s (at d) .args .effects .now) in
       let f = c .before .factor in
       subst (λ (k : ℕ). ShareRight effect (termOf k (recordFactor (s (at d) .args .records .now) (at d .loop .c))) (c .share-of .result)) (d .effect .ensures .0)
       (subst (λ (k : ℕ). ShareRight effect (termOf (d .effect .result) k) (c .share-of .result)) (f .ensures .0) (c .share-of .ensures))
@@ -102,8 +102,8 @@ loop-again c =
     let a = s (at e) .args in
     let here = else e .if1 .left in
     let n = c .next .ensures .0 in (
-      rw (c .before .before .extended .ensures) (sofar-next Greatest (effectAt (a .effects .now)) (a .records .now) _ (a .count) (l .counter) (l .c) (c .next .result) _ (l .greatest) here (omega arith) n (own shared) (l .inv .0)),
-      rw (c .before .extended2 .ensures) (sofar-next Least (effectAt (a .effects .now)) (a .records .now) _ (a .count) (l .counter) (l .c) (c .next .result) _ (l .least) here (omega arith) n (own shared) (l .inv .1)),
+      rw (c .before .before .extended .ensures) (sofar-next Greatest (effectAt (effectUnit (a .edition)) (a .effects .now)) (a .records .now) _ (a .count) (l .counter) (l .c) (c .next .result) _ (l .greatest) here (omega arith) n (own shared) (l .inv .0)),
+      rw (c .before .extended2 .ensures) (sofar-next Least (effectAt (effectUnit (a .edition)) (a .effects .now)) (a .records .now) _ (a .count) (l .counter) (l .c) (c .next .result) _ (l .least) here (omega arith) n (own shared) (l .inv .1)),
       omega arith,
       rw n (fits e .next),
     )

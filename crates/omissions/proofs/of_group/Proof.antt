@@ -6,6 +6,7 @@ use lib.ListN.{getD}
 use borrow.Author.Needs.{needs}
 use Rattle.exact.specs.declared.Question.the-variants.{Greatest, Least}
 use Rattle.exact.proofs.Extremes.{by-question}
+use Rattle.model.specs.Format.{kilonewtons}
 use Rattle.model.specs.Decode.{effectAt}
 use Rattle.exact.proofs.Ranges.{getD-listOf}
 use Rattle.groups.specs.FactorLines.{lineFactor}
@@ -17,13 +18,13 @@ use Rattle.omissions.proofs.of_group.Tie as tie
 
 abbrev Inv-loop : tie.InvT-loop
 Inv-loop effects line greatest₀ least₀ factors i₀ greatest least i =
-    GroupSofar Greatest (effectAt effects) (lineFactor line) i greatest × GroupSofar Least (effectAt effects) (lineFactor line) i least × (i ≤ 11)
+    GroupSofar Greatest (effectAt kilonewtons effects) (lineFactor line) i greatest × GroupSofar Least (effectAt kilonewtons effects) (lineFactor line) i least × (i ≤ 11)
 
 abbrev μ-loop : tie.MeasureT-loop
 μ-loop effects line greatest₀ least₀ factors i₀ greatest least i = 11 - i
 
 loop-holds : tie.Need-loop-holds Inv-loop μ-loop
-loop-holds c = let a = c .before .before .args in (group-none Greatest (effectAt (a .effects .now)) (lineFactor (a .line)), group-none Least (effectAt (a .effects .now)) (lineFactor (a .line)), omega arith)
+loop-holds c = let a = c .before .before .args in (group-none Greatest (effectAt kilonewtons (a .effects .now)) (lineFactor (a .line)), group-none Least (effectAt kilonewtons (a .effects .now)) (lineFactor (a .line)), omega arith)
 
 -- at an effect
 module _ (c : tie.In-loop Inv-loop μ-loop) where
@@ -42,8 +43,8 @@ module _ (c : tie.After-share-of Inv-loop μ-loop) where
   abbrev at : tie.In-loop Inv-loop μ-loop
   at = c .before
 
-  own : ShareRight (effectAt (s at .args .effects .now)) (termOf (l at .loop .i + 1) (lineFactor (s at .args .line) (l at .loop .i + 1))) (c .share-of .result)
-  own = subst (λ (k : ℕ). ShareRight (effectAt (s at .args .effects .now)) (termOf (l at .loop .i + 1) k) (c .share-of .result)) (factor at) (c .share-of .ensures)
+  own : ShareRight (effectAt kilonewtons (s at .args .effects .now)) (termOf (l at .loop .i + 1) (lineFactor (s at .args .line) (l at .loop .i + 1))) (c .share-of .result)
+  own = subst (λ (k : ℕ). ShareRight (effectAt kilonewtons (s at .args .effects .now)) (termOf (l at .loop .i + 1) k) (c .share-of .result)) (factor at) (c .share-of .ensures)
 
 share-of-requires : tie.Need-share-of-requires Inv-loop μ-loop
 share-of-requires c κs =
@@ -60,8 +61,8 @@ loop-again : tie.Need-loop-again Inv-loop μ-loop
 loop-again c =
     let b = c .before .before in
     let i = l (at b) .loop .i in (
-      rw (c .before .extended .ensures) (group-more Greatest (effectAt _) (lineFactor _) i _ _ (omega arith) (own b) (l (at b) .loop .inv .0)),
-      rw (c .extended2 .ensures) (group-more Least (effectAt _) (lineFactor _) i _ _ (omega arith) (own b) (l (at b) .loop .inv .1)),
+      rw (c .before .extended .ensures) (group-more Greatest (effectAt kilonewtons _) (lineFactor _) i _ _ (omega arith) (own b) (l (at b) .loop .inv .0)),
+      rw (c .extended2 .ensures) (group-more Least (effectAt kilonewtons _) (lineFactor _) i _ _ (omega arith) (own b) (l (at b) .loop .inv .1)),
       omega arith,
     )
 
@@ -70,7 +71,7 @@ unfolding lineFactor
 returns c =
     let l = c .before in
     let all : l .loop .i ≡ 11 = omega arith in
-    by-question _ (group-all Greatest (effectAt _) (l .loop .inv .0) all) (group-all Least (effectAt _) (l .loop .inv .1) all)
+    by-question _ (group-all Greatest (effectAt kilonewtons _) (l .loop .inv .0) all) (group-all Least (effectAt kilonewtons _) (l .loop .inv .1) all)
 
 pub of-group-spec : {M : Type 1} → statement M
 of-group-spec = tie.close (tie.spec Inv-loop μ-loop (λ c κs. c .before .pre .2) loop-holds (λ c. omega arith) (λ c. omega arith) (λ c. search needs) (λ c. search needs) share-of-requires extended-requires extended-requires-2 (λ c. omega arith) (λ c. omega arith) loop-again returns)

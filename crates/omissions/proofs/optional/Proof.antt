@@ -9,4 +9,4 @@ returns : tie.Need-returns
 returns c = ap (λ (k : ℕ). eqb k 2) (c .count .ensures .0)
 
 pub optional-spec : {M : Type 1} → statement M
-optional-spec = tie.close (tie.spec (λ c. search needs) (λ c. search needs) (λ c. search needs) (λ c κs. search needs) returns)
+optional-spec = tie.close (tie.spec (λ c κs. search needs) returns)

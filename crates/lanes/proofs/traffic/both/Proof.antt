@@ -5,10 +5,11 @@ use Rattle.exact.specs.Bounds.{Within}
 use Rattle.exact.specs.declared.Question.{Question}
 use Rattle.model.specs.Job.{Profile, highway, rural, Job, normal, overload}
 use Rattle.model.specs.Line.{HN, HO}
-use Rattle.model.specs.Decode.{profileOf}
+use Rattle.model.specs.Format.{profileOf}
 use Rattle.model.specs.declared.Edition.{Edition}
-use Rattle.model.specs.declared.Edition.the-variants.{First, Fourth}
+use Rattle.model.specs.declared.Edition.the-variants.{Fourth}
 use Rattle.model.specs.declared.Extreme.{Extreme}
+use Rattle.model.proofs.Editions.{highway-editions}
 use Rattle.magnitudes.specs.Magnitudes.{trafficMost}
 use Rattle.centres.specs.Spans.{Spanned}
 use Rattle.centres.specs.declared.Across.{Across}
@@ -30,21 +31,17 @@ module _ {q : Question} {loads : Profile} {across : Across} {dynamic : ℕ} {hn 
       Within trafficMost (x .value) → Within trafficMost (y .value) → Within trafficMost (x .value) × Within trafficMost (y .value) × Placed q across dynamic hn ho x y loads
   of-rural e f a b = (a, b, λ job on is factor is-hn is-ho. f job on (is ∙ e) factor is-hn)
 
--- an edition's loads
-highway-loads : {edition : Edition} → edition ≡ First → profileOf edition ≡ highway
-highway-loads e = ap profileOf e
-
 rural-loads : {edition : Edition} → edition ≡ Fourth → profileOf edition ≡ rural
 rural-loads e = ap profileOf e
 
 returns : tie.Need-returns
-returns c = of-highway (search (needs, highway-loads)) (search needs) (search needs) (search needs)
+returns c = of-highway (highway-editions (c .before .before .args .edition) (c .before .match .keys1)) (search needs) (search needs) (search needs)
 
 returns-2 : tie.Need-returns-2
 returns-2 c = of-rural (search (needs, rural-loads)) (search needs) (search needs) (search needs)
 
 rural-requires : tie.Need-rural-requires
-rural-requires c κs = let s = c .before .before in (s .pre .0, s .pre .1 (c .enum-told2 .given .1), s .pre .2, s .pre .3, s .pre .4)
+rural-requires c κs = let s = c .before .before in (s .pre .0, s .pre .1 (rural-loads (c .enum-told .given .1)), s .pre .2, s .pre .3, s .pre .4)
 
 pub both-spec : {M : Type 1} → statement M
-both-spec = tie.close (tie.spec (λ c. search needs) (λ c κs. search needs) (λ c. search needs) rural-requires returns returns-2)
+both-spec = tie.close (tie.spec (λ c κs. search needs) (λ c. search needs) rural-requires returns returns-2)

@@ -5,7 +5,8 @@ use Rattle.exact.specs.declared.Question.{Question}
 use Rattle.exact.specs.declared.Question.the-variants.{Greatest, Least}
 use Rattle.exact.proofs.Extremes.{by-question}
 use Rattle.exact.proofs.Held.{Held, got, told}
-use Rattle.magnitudes.specs.Magnitudes.{shareMost}
+use Rattle.magnitudes.specs.Magnitudes.{loadMost}
+use Rattle.model.specs.Format.{kilonewtons}
 use Rattle.model.specs.Decode.{effectAt}
 use Rattle.model.specs.Job.{Row}
 use Rattle.model.specs.RuralBridges.{groupRow}
@@ -34,10 +35,10 @@ module _ (c : tie.After-line-loaded2) where
   abbrev traffic : Question → ℤ
   traffic q = pos (row .factor) *ℤ trafficOf (s .args .live) q (row .live)
 
-  most : Held w64 (ofZ w64 (c .before .line-loaded .result)) shareMost (traffic Greatest)
+  most : Held w64 (ofZ w64 (c .before .line-loaded .result)) loadMost (traffic Greatest)
   most = got w64 (c .before .line-loaded .ok) (c .before .line-loaded .ensures)
 
-  least : Held w64 (ofZ w64 (c .line-loaded2 .result)) shareMost (traffic Least)
+  least : Held w64 (ofZ w64 (c .line-loaded2 .result)) loadMost (traffic Least)
   least = got w64 (c .line-loaded2 .ok) (c .line-loaded2 .ensures)
 
 laden-both-requires : tie.Need-laden-both-requires
@@ -49,8 +50,8 @@ returns c =
     let a = s d .args in
     let chain = d .before .before .of-group .ensures in
     by-question _
-    (laden-is Greatest (effectAt (a .effects .now)) (row d) (a .live .greatest) (lineAlternative (a .line)) _ (chain Greatest) (a .r) (a .k) (c .laden-both .ensures .0) (most d .is))
-    (laden-is Least (effectAt (a .effects .now)) (row d) (a .live .least) (lineAlternative (a .line)) _ (chain Least) (a .r) (a .k) (c .laden-both .ensures .1) (least d .is))
+    (laden-is Greatest (effectAt kilonewtons (a .effects .now)) (row d) (a .live .greatest) (lineAlternative (a .line)) _ (chain Greatest) (a .r) (a .k) (c .laden-both .ensures .0) (most d .is))
+    (laden-is Least (effectAt kilonewtons (a .effects .now)) (row d) (a .live .least) (lineAlternative (a .line)) _ (chain Least) (a .r) (a .k) (c .laden-both .ensures .1) (least d .is))
 
 pub by-line-spec : {M : Type 1} → statement M
 by-line-spec = tie.close (tie.spec (λ c κs. search needs) line-loaded-requires line-loaded-requires-2 laden-both-requires returns)

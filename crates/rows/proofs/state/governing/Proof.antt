@@ -1,6 +1,7 @@
 use mathlib.Core.Path.{_≡_, refl, subst}
 use Prim.Native.Nat.{ℕ, _+_, _-_, _≤_}
 use native.Mathlib.Omega.{arith}
+use Rattle.model.specs.Format.{profileOf, effectUnit}
 use Rattle.model.specs.Decode.{effectAt, rowCount, rowOf}
 use Rattle.model.specs.Job.{Row}
 use Rattle.rows.specs.Governed.{trafficOf, FoundRight}
@@ -11,7 +12,7 @@ use Rattle.rows.proofs.state.governing.Tie as tie
 
 abbrev Inv-loop : tie.InvT-loop
 Inv-loop effects rows records head live found₀ n i₀ found i =
-    FoundRight (effectAt effects) (rowOf (head .edition) rows records (head .records)) (trafficOf live) i found × (i ≤ n)
+    FoundRight (effectAt (effectUnit (head .edition)) effects) (rowOf (profileOf (head .edition)) rows records (head .records)) (trafficOf live) i found × (i ≤ n)
 
 abbrev μ-loop : tie.MeasureT-loop
 μ-loop effects rows records head live found₀ n i₀ found i = n - i
@@ -22,10 +23,10 @@ module _ (c : tie.After-row-count Inv-loop μ-loop) where
   s = c .before .before .before .before
 
   abbrev row : ℕ → Row
-  row = rowOf (s .args .head .edition) (s .args .rows .now) (s .args .records .now) (s .args .head .records)
+  row = rowOf (profileOf (s .args .head .edition)) (s .args .rows .now) (s .args .records .now) (s .args .head .records)
 
 loop-holds : tie.Need-loop-holds Inv-loop μ-loop
-loop-holds c = let a = s c .args in (found-none (effectAt (a .effects .now)) (row c) (trafficOf (a .live)) _ refl, omega arith)
+loop-holds c = let a = s c .args in (found-none (effectAt (effectUnit (a .head .edition)) (a .effects .now)) (row c) (trafficOf (a .live)) _ refl, omega arith)
 
 -- at a row
 module _ (c : tie.In-loop Inv-loop μ-loop) where
@@ -35,7 +36,7 @@ module _ (c : tie.In-loop Inv-loop μ-loop) where
   abbrev i : ℕ
   i = c .before .loop .i
 
-  last : i + 1 ≤ rowCount (s counted .args .head .edition) (s counted .args .head .rows)
+  last : i + 1 ≤ rowCount (profileOf (s counted .args .head .edition)) (s counted .args .head .rows)
   last = omega (arith, counted .row-count .ensures)
 
 row-requires : tie.Need-row-requires Inv-loop μ-loop
@@ -50,7 +51,7 @@ loop-again c =
     let a = s (counted at) .args in
     let l = at .before .loop in (
       rw (c .with-row .ensures)
-          (found-next (effectAt (a .effects .now)) (row (counted at)) (trafficOf (a .live)) (l .i) (c .before .of-service .result) (l .found) (c .before .before .row .result) (c .before .of-service .ensures (a .records .now))
+          (found-next (effectAt (effectUnit (a .head .edition)) (a .effects .now)) (row (counted at)) (trafficOf (a .live)) (l .i) (c .before .of-service .result) (l .found) (c .before .before .row .result) (c .before .of-service .ensures (a .records .now))
           (c .before .before .row .ensures) (l .inv .0)),
       omega arith,
     )
@@ -60,8 +61,8 @@ returns c =
     let l = c .before .loop in
     let counted = c .before .before in
     let a = s counted .args in
-    let e : l .i ≡ rowCount (a .head .edition) (a .head .rows) = omega (arith, counted .row-count .ensures) in
-    subst (λ (k : ℕ). FoundRight (effectAt (a .effects .now)) (row counted) (trafficOf (a .live)) k (l .found)) e (l .inv .0)
+    let e : l .i ≡ rowCount (profileOf (a .head .edition)) (a .head .rows) = omega (arith, counted .row-count .ensures) in
+    subst (λ (k : ℕ). FoundRight (effectAt (effectUnit (a .head .edition)) (a .effects .now)) (row counted) (trafficOf (a .live)) k (l .found)) e (l .inv .0)
 
 pub governing-spec : {M : Type 1} → statement M
 governing-spec = tie.close (tie.spec Inv-loop μ-loop (λ c κs. search needs) loop-holds (λ c. omega arith) row-requires (λ c. omega arith) of-service-requires (λ c κs. search needs) (λ c. omega arith) (λ c. omega arith) loop-again returns)

@@ -7,7 +7,8 @@ use Rattle.exact.specs.declared.Question.{Question}
 use Rattle.exact.specs.declared.Question.the-variants.{Greatest, Least}
 use Rattle.exact.proofs.Extremes.{by-question}
 use Rattle.exact.proofs.Held.{Held, got, told}
-use Rattle.magnitudes.specs.Magnitudes.{shareMost}
+use Rattle.magnitudes.specs.Magnitudes.{loadMost}
+use Rattle.model.specs.Format.{effectUnit}
 use Rattle.model.specs.Decode.{effectAt, rowAt, termsFrom}
 use Rattle.model.specs.Job.{Effect, Row}
 use Rattle.rows.specs.Tables.{RowInTables}
@@ -23,7 +24,7 @@ module _ (c : tie.After-first-record) where
   abbrev s : tie.Start
   s = c .before .before .before .before
 
-  abbrev fits : RowInTables (s .args .records .now) (s .args .count) (s .args .rows .now) (s .args .r)
+  abbrev fits : RowInTables (s .args .records .now) (s .args .head .records) (s .args .rows .now) (s .args .r)
   fits = s .pre .4
 
 best-requires : tie.Need-best-requires
@@ -35,14 +36,14 @@ module _ (c : tie.After-best) where
   at = s (c .before)
 
   abbrev effect : ℕ → Effect
-  effect = effectAt (at .args .effects .now)
+  effect = effectAt (effectUnit (at .args .head .edition)) (at .args .effects .now)
 
   abbrev row : ℕ → Row
-  row = rowAt (at .args .rows .now) (at .args .records .now) (at .args .count)
+  row = rowAt (at .args .rows .now) (at .args .records .now) (at .args .head .records)
 
   chained : (q : Question) → ChainRight q effect (row (at .args .r) .chain 0) (chainFor q (c .best .result))
   chained q =
-      subst (λ (k : ℕ). ChainRight q effect (termsFrom (at .args .records .now) (at .args .count) k) (chainFor q (c .best .result)))
+      subst (λ (k : ℕ). ChainRight q effect (termsFrom (at .args .records .now) (at .args .head .records) k) (chainFor q (c .best .result)))
       (c .before .first-record .ensures) (c .best .ensures q)
 
 loaded-requires : tie.Need-loaded-requires
@@ -60,10 +61,10 @@ module _ (c : tie.After-loaded2) where
   abbrev traffic : Question → ℤ
   traffic q = pos (row b (at b .args .r) .factor) *ℤ trafficOf (at b .args .live) q (row b (at b .args .r) .live)
 
-  most : Held w64 (ofZ w64 (c .before .loaded .result)) shareMost (traffic Greatest)
+  most : Held w64 (ofZ w64 (c .before .loaded .result)) loadMost (traffic Greatest)
   most = got w64 (c .before .loaded .ok) (c .before .loaded .ensures)
 
-  least : Held w64 (ofZ w64 (c .loaded2 .result)) shareMost (traffic Least)
+  least : Held w64 (ofZ w64 (c .loaded2 .result)) loadMost (traffic Least)
   least = got w64 (c .loaded2 .ok) (c .loaded2 .ensures)
 
 laden-both-requires : tie.Need-laden-both-requires

@@ -1,3 +1,4 @@
+use Rattle.model.specs.Format.{profileOf, effectUnit}
 use Rattle.model.specs.Decode.{effectAt, rowCount, rowOf}
 use Rattle.model.specs.Job.{Limit, service, ultimate}
 use Rattle.rows.specs.Governed.{trafficOf, foundFor, StateFound, stateBy}
@@ -11,8 +12,8 @@ module _ (c : tie.After-governing) where
   abbrev s : tie.Start
   s = c .before .before .before .before
 
-  right : (limit : Limit) → StateFound (effectAt (s .args .effects .now)) (rowOf (s .args .head .edition) (s .args .rows .now) (s .args .records .now) (s .args .head .records)) (trafficOf (s .args .live)) limit (rowCount (s .args .head .edition) (s .args .head .rows)) (stateBy (foundFor limit (c .governing .result)))
-  right limit = state-found _ _ (trafficOf (s .args .live)) limit (rowCount (s .args .head .edition) (s .args .head .rows)) (foundFor limit (c .governing .result)) (c .governing .ensures limit)
+  right : (limit : Limit) → StateFound (effectAt (effectUnit (s .args .head .edition)) (s .args .effects .now)) (rowOf (profileOf (s .args .head .edition)) (s .args .rows .now) (s .args .records .now) (s .args .head .records)) (trafficOf (s .args .live)) limit (rowCount (profileOf (s .args .head .edition)) (s .args .head .rows)) (stateBy (foundFor limit (c .governing .result)))
+  right limit = state-found _ _ (trafficOf (s .args .live)) limit (rowCount (profileOf (s .args .head .edition)) (s .args .head .rows)) (foundFor limit (c .governing .result)) (c .governing .ensures limit)
 
 returns : tie.Need-returns
 returns c =
