@@ -195,7 +195,8 @@ fn check_omissions(
         let bit = 1_u32 << (part.effect - 1);
         not_on_chain &= !bit;
         if governing.omitted & bit == 0 {
-            value += i128::from(part.factor) * 1000 * i128::from(effect.value);
+            let in_newtons = i128::from(effect.value) * i128::from(job.edition.effect_unit());
+            value += i128::from(part.factor) * in_newtons;
         } else if effect.mark != MAY_BE_LEFT_OUT {
             return Err(format!("effect {} may not be left out", part.effect));
         }

@@ -1,8 +1,10 @@
 //! Cases chosen by hand for what the generated ones do not reach. To add one,
 //! write its builder, with the reason above it, and put it at the end of
 //! BUILDERS; or, where words of Job A changed will do, put them into PAST_LIMITS.
-//! Those of edition 4 are in chosen/farm.rs.
+//! Those of edition 4 are in chosen/farm.rs, those of edition 2 in
+//! chosen/edition_2.rs.
 
+mod edition_2;
 mod farm;
 
 use crate::edition::Edition;
@@ -105,6 +107,7 @@ pub fn cases(edition: Edition) -> impl Iterator<Item = Case> {
                 .chain(PAST_LIMITS.into_iter().map(changed_job_a))
                 .collect()
         }
+        Edition::Two => edition_2::cases(),
         Edition::Four => farm::cases(),
     };
     cases.into_iter()

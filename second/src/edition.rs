@@ -1,22 +1,27 @@
 //! The editions of the job that are admitted, and what differs between them:
-//! edition 1 is 01's, edition 4 that of 02 "Farm bridges".
+//! edition 1 is 01's, edition 4 that of 02 "Farm bridges", edition 2 that of 02
+//! "Effects past a word".
 
 use crate::sections;
 
 #[derive(Debug, Clone, Copy, PartialEq, Eq)]
 pub enum Edition {
     One,
+    /// Effects past a word.
+    Two,
     /// A farm bridge.
     Four,
 }
 
 impl Edition {
-    pub const ALL: [Edition; 2] = [Edition::One, Edition::Four];
+    /// In the order in which the requests of 02 bring them.
+    pub const ALL: [Edition; 3] = [Edition::One, Edition::Four, Edition::Two];
 
     /// The edition as a job's word 0 has it.
     pub fn number(self) -> i32 {
         match self {
             Edition::One => 1,
+            Edition::Two => 2,
             Edition::Four => 4,
         }
     }
@@ -39,7 +44,32 @@ impl Edition {
     pub fn header_words(self) -> usize {
         match self {
             Edition::One => 10,
+            Edition::Two => 12,
             Edition::Four => 11,
+        }
+    }
+
+    /// Words of an effect: its value, in edition 2 as two halves, then its mark.
+    pub fn words_per_effect(self) -> usize {
+        match self {
+            Edition::One | Edition::Four => 2,
+            Edition::Two => 3,
+        }
+    }
+
+    /// The unit of an effect's value in N·U: 1 kN·U, but 1 N·U in edition 2.
+    pub fn effect_unit(self) -> i64 {
+        match self {
+            Edition::One | Edition::Four => 1000,
+            Edition::Two => 1,
+        }
+    }
+
+    /// The most that an effect's value is away from 0, in its unit.
+    pub fn most_effect(self) -> i64 {
+        match self {
+            Edition::One | Edition::Four => 1_000_000_000,
+            Edition::Two => 100_000_000_000_000,
         }
     }
 
@@ -47,7 +77,7 @@ impl Edition {
     /// a farm bridge.
     pub fn share_of_x(self) -> (i128, i128) {
         match self {
-            Edition::One => (1, 1),
+            Edition::One | Edition::Two => (1, 1),
             Edition::Four => (17, 20),
         }
     }

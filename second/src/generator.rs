@@ -6,6 +6,7 @@
 mod damage;
 mod draws;
 mod edition_1;
+mod edition_2;
 mod edition_4;
 mod header;
 mod line;
@@ -50,6 +51,7 @@ pub fn case(edition: Edition, seed: u64) -> Case {
 pub fn sound_job(rng: &mut Rng, edition: Edition) -> Job {
     match edition {
         Edition::One => edition_1::sound_job(rng),
+        Edition::Two => edition_2::sound_job(rng),
         Edition::Four => edition_4::sound_job(rng),
     }
 }

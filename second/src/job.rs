@@ -1,5 +1,5 @@
-//! 01 "The job's words" and 02 "Farm bridges": a job decoded into its fields,
-//! and encoded again.
+//! 01 "The job's words", 02 "Farm bridges" and "Effects past a word": a job
+//! decoded into its fields, and encoded again.
 
 use crate::edition::Edition;
 use crate::line;
@@ -13,9 +13,10 @@ pub struct Piece {
     pub right: i64,
 }
 
-/// A finished effect in kN·U.
+/// A finished effect.
 #[derive(Debug, Clone, Copy, PartialEq, Eq)]
 pub struct Effect {
+    /// In the edition's unit: kN·U, but N·U in edition 2.
     pub value: i64,
     /// 1 always present, 2 may be left out.
     pub mark: i64,
@@ -37,6 +38,17 @@ pub struct Row {
     pub first: usize,
 }
 
+impl Row {
+    pub fn new(state: i64, live_kind: i64, live_factor: i64, first: usize) -> Row {
+        Row {
+            state,
+            live_kind,
+            live_factor,
+            first,
+        }
+    }
+}
+
 pub const SERVICE: i64 = 1;
 pub const ULTIMATE: i64 = 2;
 
@@ -55,6 +67,16 @@ pub struct Record {
     pub next: usize,
 }
 
+impl Record {
+    pub fn new(effect: usize, factor: i64, next: usize) -> Record {
+        Record {
+            effect,
+            factor,
+            next,
+        }
+    }
+}
+
 /// A job whose words are within their limits.
 #[derive(Debug, Clone, PartialEq, Eq)]
 pub struct Job {
@@ -68,7 +90,7 @@ pub struct Job {
     pub dynamic_kind: i64,
     pub dynamic_value: i64,
     /// The header's words past word 9, which edition 1 has none of: a farm job's
-    /// barriers.
+    /// barriers, edition 2's two zeros.
     pub further_header: Vec<i64>,
     pub pieces: Vec<Piece>,
     /// Transverse ordinates in thousandths, the first at the left kerb.
@@ -77,6 +99,33 @@ pub struct Job {
     /// Empty, as the records are, where the edition has its rows built in.
     pub rows: Vec<Row>,
     pub records: Vec<Record>,
+}
+
+impl Effect {
+    pub fn new(value: i64, mark: i64) -> Effect {
+        Effect { value, mark }
+    }
+
+    /// Its value, of one word or of two halves, and its mark.
+    fn of_words(words: &[i32]) -> Effect {
+        let (value, mark) = match *words {
+            [low, high, mark] => (words::joined(low, high), mark),
+            _ => (words[0].into(), words[1]),
+        };
+        Effect {
+            value,
+            mark: mark.into(),
+        }
+    }
+
+    fn words(&self, edition: Edition) -> Vec<i64> {
+        let mut words = match edition {
+            Edition::One | Edition::Four => vec![self.value],
+            Edition::Two => words::halves(self.value).map(i64::from).to_vec(),
+        };
+        words.push(self.mark);
+        words
+    }
 }
 
 impl Job {
@@ -98,11 +147,8 @@ impl Job {
             pieces: line::pieces_of(&words[sections.line]),
             transverse: numbers(&words[sections.transverse]),
             effects: words[sections.effects]
-                .chunks_exact(sections::WORDS_PER_EFFECT)
-                .map(|effect| Effect {
-                    value: number(effect[0]),
-                    mark: number(effect[1]),
-                })
+                .chunks_exact(edition.words_per_effect())
+                .map(Effect::of_words)
                 .collect(),
             rows: words[sections.rows]
                 .chunks_exact(sections::WORDS_PER_ROW)
@@ -142,7 +188,7 @@ impl Job {
         words.extend(line::ordinates_of(&self.pieces));
         words.extend(&self.transverse);
         for effect in &self.effects {
-            words.extend([effect.value, effect.mark]);
+            words.extend(effect.words(self.edition));
         }
         for row in &self.rows {
             words.extend([row.state, row.live_kind, row.live_factor, row.first as i64]);

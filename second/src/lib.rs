@@ -6,6 +6,7 @@
 #![forbid(unsafe_code)]
 
 pub mod account;
+pub mod arch_job;
 pub mod arrangement;
 pub mod checker;
 pub mod chosen;

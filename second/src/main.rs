@@ -7,7 +7,7 @@ use second::job::Job;
 use second::lanes::lane_count;
 use second::train::page::{page, truck_line};
 use second::train::{self, Axle, TrainCase, REPORT_BYTES};
-use second::{farm_job, job_a, line, report, sampler, solve, store, words};
+use second::{arch_job, farm_job, job_a, line, report, sampler, solve, store, words};
 use std::fs;
 use std::io::{self, Read, Write};
 use std::path::Path;
@@ -20,6 +20,8 @@ const USAGE: &str = "usage:
   second job-a                     write Job A's bytes to standard output
   second farm-job                  write the example farm job's bytes to standard
                                    output
+  second arch-job                  write the bytes of edition 2's example to
+                                   standard output
   second train H MODE LOAD@AT.. < LINE
                                    print the rating of a train on a line's
                                    section, or the refusal
@@ -28,7 +30,7 @@ const USAGE: &str = "usage:
   second generate EDITION SEED COUNT DIR
                                    write COUNT cases of EDITION's stream from
                                    SEED on into DIR, as SEED.job and SEED.patch;
-                                   EDITION is 1 or 4
+                                   EDITION is 1, 2 or 4
   second store DIR                 write the cases to store into DIR/jobs, and
                                    what is due for each into DIR/expected
 ";
@@ -79,6 +81,7 @@ fn run(arguments: &[&str]) -> Result<(), Failure> {
         }
         ["job-a"] => write_out(&job_a::job_a().bytes()),
         ["farm-job"] => write_out(&farm_job::farm_job().bytes()),
+        ["arch-job"] => write_out(&arch_job::arch_job().bytes()),
         ["train", h, mode, axles @ ..] => train(number(h)?, number(mode)?, axles),
         ["truck-line"] => write_out(&line::section_bytes(&truck_line())),
         ["generate", edition, seed, count, directory] => generate(

@@ -1,12 +1,11 @@
-//! 01 "What the yard hears back" and 02 "Farm bridges": refusals 1 to 9, tested
-//! in rising number, and 11, tested straight after 2; each at its lowest place.
+//! 01 "What the yard hears back", 02 "Farm bridges" and "Effects past a word":
+//! refusals 1 to 9, tested in rising number, and 11, tested straight after 2;
+//! each at its lowest place.
 
 use crate::edition::Edition;
 use crate::farm;
 use crate::job::{ALWAYS_PRESENT, MAY_BE_LEFT_OUT};
-use crate::sections::{
-    self, Sections, WORDS_PER_EFFECT, WORDS_PER_PIECE, WORDS_PER_RECORD, WORDS_PER_ROW,
-};
+use crate::sections::{self, Sections, WORDS_PER_PIECE, WORDS_PER_RECORD, WORDS_PER_ROW};
 use crate::words::{self, WORD_BYTES};
 use std::ops::{Range, RangeInclusive};
 
@@ -94,9 +93,10 @@ fn header_word_lawful(words: &[i32], place: usize, edition: Edition) -> bool {
 /// by edition.
 pub fn later_header_word_limits(place: usize, edition: Edition) -> RangeInclusive<i32> {
     match (edition, place) {
-        (Edition::One, sections::EFFECTS) => 0..=16,
-        (Edition::One, sections::ROWS) => 1..=32,
-        (Edition::One, _) => 0..=512,
+        (Edition::One | Edition::Two, sections::EFFECTS) => 0..=16,
+        (Edition::One | Edition::Two, sections::ROWS) => 1..=32,
+        (Edition::One, _) | (Edition::Two, sections::RECORDS) => 0..=512,
+        (Edition::Two, _) => 0..=0,
         (Edition::Four, sections::EFFECTS) => 11..=11,
         (Edition::Four, sections::ROWS | sections::RECORDS) => 0..=0,
         (Edition::Four, _) => 1..=3,
@@ -174,10 +174,7 @@ fn factor_word_lawful(words: &[i32], sections: &Sections, edition: Edition, plac
     let records = words[sections::RECORDS];
     if sections.effects.contains(&place) {
         let within = place - sections.effects.start;
-        match within % WORDS_PER_EFFECT {
-            0 => (-1_000_000_000..=1_000_000_000).contains(&word),
-            _ => marks(edition, within / WORDS_PER_EFFECT).contains(&word.into()),
-        }
+        effect_word_lawful(&words[place..], edition, within)
     } else if sections.rows.contains(&place) {
         match (place - sections.rows.start) % WORDS_PER_ROW {
             0 => word == 1 || word == 2,
@@ -195,10 +192,23 @@ fn factor_word_lawful(words: &[i32], sections: &Sections, edition: Edition, plac
     }
 }
 
+/// The limits of a word so many words into the effects, given it and what
+/// follows it. A value of two halves is told at the low one.
+fn effect_word_lawful(words: &[i32], edition: Edition, within: usize) -> bool {
+    let each = edition.words_per_effect();
+    let most = edition.most_effect();
+    match (edition, within % each) {
+        (Edition::One | Edition::Four, 0) => (-most..=most).contains(&words[0].into()),
+        (Edition::Two, 0) => (-most..=most).contains(&words::joined(words[0], words[1])),
+        (Edition::Two, 1) => true,
+        _ => marks(edition, within / each).contains(&words[0].into()),
+    }
+}
+
 /// The marks that an effect, counted from 0, may carry.
 fn marks(edition: Edition, effect: usize) -> RangeInclusive<i64> {
     match edition {
-        Edition::One => ALWAYS_PRESENT..=MAY_BE_LEFT_OUT,
+        Edition::One | Edition::Two => ALWAYS_PRESENT..=MAY_BE_LEFT_OUT,
         Edition::Four => farm::mark(effect)..=farm::mark(effect),
     }
 }

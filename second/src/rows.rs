@@ -1,5 +1,7 @@
-//! 01 "Dynamic factor, rounding, rows" and 02 "Farm bridges": the value of each
-//! row and the two limit states, in thousandths of N·U.
+//! 01 "Dynamic factor, rounding, rows", 02 "Farm bridges" and "Effects past a
+//! word": the value of each row and the two limit states, in thousandths of N·U.
+//! A row is at most 16 times 3000 times 10^14 and its traffic, less than 4.81e18 in all,
+//! so it fits 64 bits; rows are compared, never subtracted.
 
 use crate::account::{Governing, State};
 use crate::combination::{Combination, Variant};
@@ -40,7 +42,7 @@ fn furthest_of_variant(job: &Job, variant: &Variant, question: Question) -> Gove
     };
     for part in &variant.parts {
         let effect = job.effects[part.effect - 1];
-        let counts = part.factor * 1000 * effect.value;
+        let counts = part.factor * job.edition.effect_unit() * effect.value;
         if effect.mark == MAY_BE_LEFT_OUT && question.beats(0, counts) {
             governing.omitted |= 1 << (part.effect - 1);
         } else {

@@ -179,7 +179,8 @@ impl<'a> Sampler<'a> {
         let mut omitted = 0;
         for part in &row.parts {
             let effect = self.job.effects[part.effect - 1];
-            let counts = i128::from(part.factor) * 1000 * i128::from(effect.value);
+            let in_newtons = i128::from(effect.value) * i128::from(self.job.edition.effect_unit());
+            let counts = i128::from(part.factor) * in_newtons;
             let leave_out = if aimed {
                 question.beats(0, counts)
             } else {

@@ -1,5 +1,5 @@
-//! 01 "The job's words" and 02 "Farm bridges": where each section of a job
-//! lies, in word places.
+//! 01 "The job's words", 02 "Farm bridges" and "Effects past a word": where each
+//! section of a job lies, in word places.
 
 use crate::edition::Edition;
 use std::ops::Range;
@@ -19,7 +19,6 @@ pub const RECORDS: usize = 9;
 pub const BARRIERS: usize = 10;
 
 pub const WORDS_PER_PIECE: usize = 2;
-pub const WORDS_PER_EFFECT: usize = 2;
 pub const WORDS_PER_ROW: usize = 4;
 pub const WORDS_PER_RECORD: usize = 3;
 
@@ -41,7 +40,7 @@ impl Sections {
         let start = edition.header_words();
         let line = start..start + WORDS_PER_PIECE * count(PIECES);
         let transverse = following(&line, count(WIDTH).div_ceil(count(SPACING)) + 1);
-        let effects = following(&transverse, WORDS_PER_EFFECT * count(EFFECTS));
+        let effects = following(&transverse, edition.words_per_effect() * count(EFFECTS));
         let rows = following(&effects, WORDS_PER_ROW * count(ROWS));
         let records = following(&rows, WORDS_PER_RECORD * count(RECORDS));
         Sections {

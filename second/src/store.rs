@@ -35,7 +35,7 @@ pub fn cases() -> impl Iterator<Item = Case> {
 fn cases_of(edition: Edition) -> usize {
     match edition {
         Edition::One => 1700,
-        Edition::Four => 400,
+        Edition::Two | Edition::Four => 400,
     }
 }
 

@@ -17,6 +17,16 @@ pub fn bytes_of(words: &[i32]) -> Vec<u8> {
     words.iter().flat_map(|word| word.to_le_bytes()).collect()
 }
 
+/// The number of a low unsigned and a high signed half.
+pub fn joined(low: i32, high: i32) -> i64 {
+    i64::from(high) * (1 << 32) + i64::from(low as u32)
+}
+
+/// A number's halves, the low one first.
+pub fn halves(number: i64) -> [i32; 2] {
+    [number as i32, (number >> 32) as i32]
+}
+
 /// A place and the word to put there.
 pub type Change = (usize, i32);
 

@@ -21,6 +21,19 @@ fn their_lengths_and_answers() {
     assert_eq!(reached.take(due.len()).collect::<Vec<_>>(), due);
 }
 
+/// Edition 2's last two: every section as long as it may be, and a word more.
+#[test]
+fn the_most_words_of_edition_2() {
+    let reached: Vec<_> = chosen::cases(Edition::Two)
+        .map(|mut case| {
+            let answer = solve(&case.job, &mut case.patch);
+            (case.job.len(), answer.refusal, answer.place)
+        })
+        .collect();
+    let due = [(4 * 3933, 0, 0), (4 * 3934, 3, 3933)];
+    assert_eq!(reached[reached.len() - 2..], due);
+}
+
 /// Twenty twentieths, the ordinate at 150 cm times n g, and the line effect of
 /// 7 and an axle give the sum: the dividends are next to 2^32 on both sides.
 #[test]

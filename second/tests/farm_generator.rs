@@ -58,7 +58,7 @@ fn not_a_job_labels(case: &Case, words: &[i32]) -> Vec<String> {
         None => "no word 0".into(),
         Some(4) if bytes < 44 => format!("{bytes} bytes"),
         _ if !bytes.is_multiple_of(4) => "uneven".into(),
-        Some(edition @ (0 | 2 | 3 | 5 | -4)) => format!("edition {edition}"),
+        Some(edition @ (0 | 3 | 5 | -4)) => format!("edition {edition}"),
         _ => "another edition".into(),
     };
     vec![label]
@@ -66,7 +66,7 @@ fn not_a_job_labels(case: &Case, words: &[i32]) -> Vec<String> {
 
 fn header_labels(words: &[i32], place: usize) -> Vec<String> {
     if words[0] != 4 {
-        return vec!["in edition 1".into()];
+        return vec!["in another edition".into()];
     }
     let word = words[place];
     let mut labels = vec![format!("word {place}"), format!("word {place} is {word}")];
@@ -260,7 +260,7 @@ fn expected_refusals() -> Vec<String> {
     .map(String::from)
     .to_vec();
     expected.extend((40..44).map(|bytes| format!("1: {bytes} bytes")));
-    expected.extend([0, 2, 3, 5, -4].map(|edition| format!("1: edition {edition}")));
+    expected.extend([0, 3, 5, -4].map(|edition| format!("1: edition {edition}")));
     expected.extend((1..=10).map(|place| format!("2: word {place}")));
     for (place, words) in [
         (4, &[299, 2080][..]),
@@ -365,14 +365,18 @@ fn the_stored_cases_reach_every_refusal_row_and_shape() {
     reach_all(store::generated_cases(edition).chain(chosen::cases(edition)));
 }
 
+fn of_edition_2(case: &Case) -> bool {
+    case.job.starts_with(&[2, 0, 0, 0])
+}
+
 /// A single fault gets its own refusal; the count's fault may leave the count as
-/// it was or make the line too long.
+/// it was or make the line too long, and a word 0 of 2 is that of an edition.
 #[test]
 fn a_fault_alone_gives_its_refusal() {
     for &fault in faults_of(Edition::Four) {
         let hits = (0..200).filter(|&seed| {
             let case = damaged(&mut Rng::new(seed), Edition::Four, &[fault]);
-            solve(&case.job, &mut case.patch.clone()).refusal == fault
+            of_edition_2(&case) || solve(&case.job, &mut case.patch.clone()).refusal == fault
         });
         let least = if fault == 3 { 170 } else { 200 };
         assert!(hits.count() >= least, "refusal {fault}");
@@ -389,7 +393,11 @@ fn two_faults_give_the_first_refusal() {
             for seed in 0..20 {
                 let case = damaged(&mut Rng::new(seed), Edition::Four, &[first, other]);
                 let answer = solve(&case.job, &mut case.patch.clone());
-                assert_eq!(answer.refusal, first, "{first} and {other}, seed {seed}");
+                let renamed = first == 1 && of_edition_2(&case);
+                assert!(
+                    renamed || answer.refusal == first,
+                    "{first} and {other}, seed {seed}"
+                );
             }
         }
     }

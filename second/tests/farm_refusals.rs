@@ -72,16 +72,17 @@ fn refusal_1_for_uneven_bytes_and_other_editions() {
         job.resize(length, 0);
         refused(&job, 1, (1, 0), &format!("{length} bytes"));
     }
-    for edition in [0, 2, 3, 5, -4, 260, 0x0400_0000, i32::MIN, i32::MAX] {
+    for edition in [0, 3, 5, -4, 260, 0x0400_0000, i32::MIN, i32::MAX] {
         refused_with(&[(0, edition)], (1, 0));
         refused_with(&[(0, edition), (10, 0), (4, 431)], (1, 0));
     }
 }
 
-/// The same words as edition 1 have no rows, which is at fault at 8.
+/// The same words as edition 1 or 2 have no rows, which is at fault at 8.
 #[test]
 fn word_0_chooses_the_limits() {
     refused_with(&[(0, 1)], (2, 8));
+    refused_with(&[(0, 2)], (2, 8));
 }
 
 #[test]
@@ -232,7 +233,7 @@ fn refusal_6_for_each_value() {
 fn refusal_9_comes_last() {
     refused(&bytes_of(&SOUND), 0, (9, 1), "no patch buffer");
     for (changes, expected) in [
-        (&[(0, 2)][..], (1, 0)),
+        (&[(0, 3)][..], (1, 0)),
         (&[(10, 4)], (2, 10)),
         (&[(4, 371)], (11, 4)),
         (&[(2, 2)], (3, 44)),

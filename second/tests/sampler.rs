@@ -5,6 +5,7 @@ mod common;
 
 use common::{level_job, pieces, two_lane_job};
 use second::account::{Account, State};
+use second::arch_job::arch_job;
 use second::combination::{Combination, Part};
 use second::farm_job::farm_job;
 use second::generator::{sound_job, Edition};
@@ -20,14 +21,14 @@ use second::sampler::{first_beating, Beating, Sampler};
 use second::solve::account_of;
 use second::traffic::lanes_of;
 
-/// Edition 4 half as often as edition 1.
-const EDITIONS: [Edition; 3] = [Edition::One, Edition::One, Edition::Four];
+/// The others half as often as edition 1.
+const EDITIONS: [Edition; 4] = [Edition::One, Edition::One, Edition::Four, Edition::Two];
 
 #[test]
 fn every_draw_is_lawful() {
     for seed in 0..400 {
         let mut rng = Rng::new(seed);
-        let job = sound_job(&mut rng, EDITIONS[seed as usize % 3]);
+        let job = sound_job(&mut rng, EDITIONS[seed as usize % 4]);
         let sampler = Sampler::new(&job);
         for live in Live::BOTH {
             for question in Question::BOTH {
@@ -43,7 +44,7 @@ fn every_draw_is_lawful() {
 #[test]
 fn right_reports_are_not_beaten() {
     let level = level_job(2000, 50, vec![1000; 41]);
-    for job in [job_a(), two_lane_job(), level, farm_job()] {
+    for job in [job_a(), two_lane_job(), level, farm_job(), arch_job()] {
         assert_eq!(first_beating(&job, &account_of(&job), 1, 4000), None);
     }
     for edition in Edition::ALL {
@@ -70,8 +71,8 @@ fn values_short_by_1_are_beaten() {
         |account| account.ultimate.least.value += 1,
     ];
     let sound_jobs =
-        (0..90).map(|seed| sound_job(&mut Rng::new(seed), EDITIONS[seed as usize % 3]));
-    let jobs = sound_jobs.chain([job_a(), two_lane_job(), farm_job()]);
+        (0..120).map(|seed| sound_job(&mut Rng::new(seed), EDITIONS[seed as usize % 4]));
+    let jobs = sound_jobs.chain([job_a(), two_lane_job(), farm_job(), arch_job()]);
     for (job_number, job) in jobs.enumerate() {
         let account = account_of(&job);
         for (number, change) in changes.iter().enumerate() {
@@ -150,6 +151,9 @@ enum Sham {
     TakesKByTheSignOfDl,
     CountsOwIn2C,
     TakesTheShareAfterRounding,
+    DropsTheHighHalf,
+    TakesTheLowHalfAsSigned,
+    CountsWholeKilonewtons,
 }
 
 /// A farm bridge's OW, and its rows of group 2C with the factor of their others.
@@ -338,7 +342,15 @@ fn sham_row(
 
 fn sham_part(job: &Job, sham: Sham, part: Part, question: Question) -> i64 {
     let effect = job.effects[part.effect - 1];
-    let counts = part.factor * 1000 * effect.value;
+    let newtons = effect.value * if job.edition == Edition::Two { 1 } else { 1000 };
+    let low_half = newtons.rem_euclid(1 << 32);
+    let counted = match sham {
+        Sham::DropsTheHighHalf => low_half,
+        Sham::TakesTheLowHalfAsSigned if low_half >= 1 << 31 => newtons - (1 << 32),
+        Sham::CountsWholeKilonewtons => newtons / 1000 * 1000,
+        _ => newtons,
+    };
+    let counts = part.factor * counted;
     if effect.mark == 2 && sham != Sham::LeavesNothingOut && question.beats(0, counts) {
         0
     } else {
@@ -431,6 +443,21 @@ fn sham_kernels_of_farm_jobs_are_beaten() {
         Sham::TakesTheShareAfterRounding,
     ];
     are_beaten(Edition::Four, &shams);
+}
+
+#[test]
+fn sham_kernels_of_edition_2_are_beaten() {
+    let shams = [
+        Sham::LoadsEveryLane,
+        Sham::TriesStationsOnTheLineOnly,
+        Sham::CountsTheHoLaneForR,
+        Sham::ReadsRow1Only,
+        Sham::LeavesNothingOut,
+        Sham::DropsTheHighHalf,
+        Sham::TakesTheLowHalfAsSigned,
+        Sham::CountsWholeKilonewtons,
+    ];
+    are_beaten(Edition::Two, &shams);
 }
 
 /// The farm job's ultimate least is 3A's with 0.8, and nothing else goes as far:

@@ -6,6 +6,7 @@
 mod common;
 
 use common::train_case;
+use second::arch_job::arch_job;
 use second::farm_job::farm_job;
 use second::job_a::job_a;
 use second::solve;
@@ -96,17 +97,23 @@ fn each_fault_is_refused_with_4_at_its_place() {
     }
 }
 
-/// The same for the example farm job: its line has the words from 11 on, its nine
-/// transverse ordinates 31 to 39.
+/// The same for the example farm job, whose line has the words from 11 on and
+/// whose nine transverse ordinates 31 to 39; and for the arch job, with its line
+/// from 12 on and its nineteen transverse ordinates at 52 to 70.
 #[test]
-fn each_fault_of_a_farm_job_is_refused_with_4_at_its_place() {
-    let words = farm_job().words();
-    let ordinates = Ordinates::of_job(&words);
+fn each_fault_of_another_edition_is_refused_with_4_at_its_place() {
+    hold_faults_and_extremes(&farm_job().words(), 11, 39);
+    hold_faults_and_extremes(&arch_job().words(), 12, 70);
+}
+
+#[track_caller]
+fn hold_faults_and_extremes(words: &[i32], first: usize, last: usize) {
+    let ordinates = Ordinates::of_job(words);
     let faults = ordinates.faults();
-    assert_eq!(faults.iter().map(|fault| fault.place).min(), Some(11));
-    assert_eq!(faults.iter().map(|fault| fault.place).max(), Some(39));
+    assert_eq!(faults.iter().map(|fault| fault.place).min(), Some(first));
+    assert_eq!(faults.iter().map(|fault| fault.place).max(), Some(last));
     let answer = |changes: &[Change]| {
-        let answer = solve(&bytes_of(&changed(&words, changes)), &mut [0; 10]);
+        let answer = solve(&bytes_of(&changed(words, changes)), &mut [0; 20]);
         (answer.refusal, answer.place)
     };
     for fault in faults {

@@ -16,7 +16,7 @@ const FIRST_EFFECT: usize = 20;
 /// Widths at, next to and far from the ends of the bands.
 const WIDTHS: [i64; 11] = [299, 300, 301, 369, 370, 371, 429, 430, 431, 2079, 2080];
 
-/// Editions that are not admitted.
+/// Words 0 that are no farm job's; of these only 2 is of an edition.
 const OTHER_EDITIONS: [i32; 9] = [0, 2, 3, 5, -4, 260, 0x0400_0000, i32::MIN, i32::MAX];
 
 /// Changes of the short farm job's words.

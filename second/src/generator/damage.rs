@@ -3,6 +3,7 @@
 
 use super::draws::sufficient_patch;
 use super::edition_1::{name_an_effect_twice, return_to_a_record};
+use super::edition_2::spoil_a_further_word;
 use super::edition_4::{spoil_an_effect_word, take_a_width_outside, widen_to_no_band};
 use super::line::give_a_piece_two_signs;
 use super::word_faults::{
@@ -18,7 +19,7 @@ use crate::words::{bytes_of, WORD_BYTES};
 /// The refusals that a job of an edition can meet.
 pub fn faults_of(edition: Edition) -> &'static [u64] {
     match edition {
-        Edition::One => &[1, 2, 3, 4, 5, 6, 7, 8, 9],
+        Edition::One | Edition::Two => &[1, 2, 3, 4, 5, 6, 7, 8, 9],
         Edition::Four => &[1, 2, 11, 3, 4, 5, 6, 9],
     }
 }
@@ -43,7 +44,13 @@ pub fn damaged(rng: &mut Rng, edition: Edition, faults: &[u64]) -> Case {
     let sections = Sections::called_for_by(&words);
     if faults.contains(&6) {
         match edition {
-            Edition::One => spoil_a_factor_word(rng, &mut words, &sections),
+            Edition::One => spoil_a_factor_word(rng, &mut words, &sections, edition),
+            Edition::Two => {
+                // Often two words, in one section or in two.
+                for _ in 0..rng.pick(&[1, 1, 2]) {
+                    spoil_a_factor_word(rng, &mut words, &sections, edition);
+                }
+            }
             Edition::Four => spoil_an_effect_word(rng, &mut words, &sections),
         }
     }
@@ -61,6 +68,9 @@ pub fn damaged(rng: &mut Rng, edition: Edition, faults: &[u64]) -> Case {
     }
     if faults.contains(&2) {
         spoil_a_header_word(rng, &mut words, edition);
+        if edition == Edition::Two && rng.one_in(3) {
+            spoil_a_further_word(rng, &mut words);
+        }
     }
     let mut bytes = bytes_of(&words);
     if faults.contains(&1) {
@@ -87,8 +97,8 @@ fn damage_job(rng: &mut Rng, job: &mut Job, faults: &[u64]) {
     }
 }
 
-/// Too few bytes for the header, a byte count that 4 does not divide, or an
-/// edition that is not admitted.
+/// Too few bytes for the header, a byte count that 4 does not divide, or another
+/// word 0. Where that is 2, edition 2's tests are the ones that apply.
 fn make_no_job(rng: &mut Rng, bytes: &mut Vec<u8>, edition: Edition) {
     match rng.below(3) {
         0 => bytes.truncate(too_few_bytes(rng, edition)),
@@ -100,6 +110,7 @@ fn make_no_job(rng: &mut Rng, bytes: &mut Vec<u8>, edition: Edition) {
             let any = rng.number() as i32;
             let number = match edition {
                 Edition::One => rng.pick(&[0, 2, -1, 256, i32::MIN, any]),
+                Edition::Two => rng.pick(&[0, 3, 5, -2, 258, i32::MIN, any]),
                 Edition::Four => rng.pick(&[0, 2, 3, 5, -4, 260, i32::MIN, any]),
             };
             bytes[..WORD_BYTES].copy_from_slice(&number.to_le_bytes());
@@ -113,6 +124,8 @@ fn too_few_bytes(rng: &mut Rng, edition: Edition) -> usize {
     let any = rng.index(header);
     match edition {
         Edition::One => any,
+        // Often as many words as another edition's header has, or one short.
+        Edition::Two => rng.pick(&[any, 40, 43, 44, 44, 47]),
         // Often one word short, as a header of edition 1 would be.
         Edition::Four => rng.pick(&[any, 40, 41, 42, 43]),
     }

@@ -1,8 +1,9 @@
-//! What is edition 1's own among sound and damaged jobs: its tables of factors.
+//! What editions 1 and 2 alone have among sound and damaged jobs: tables of
+//! factors of their own.
 
 mod chain_faults;
 mod sound;
 mod tables;
 
 pub(super) use chain_faults::{name_an_effect_twice, return_to_a_record};
-pub(super) use sound::sound_job;
+pub(super) use sound::{extreme_job, sound_job};

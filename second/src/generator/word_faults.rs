@@ -2,14 +2,21 @@
 //! or too many.
 
 use super::draws::{first_last_or_any, outside};
+use super::edition_2::spoil_a_wide_effect;
 use super::line::LONGEST_LINE;
 use crate::edition::Edition;
 use crate::refusals::later_header_word_limits;
 use crate::rng::Rng;
-use crate::sections::{self, Sections, WORDS_PER_EFFECT, WORDS_PER_RECORD, WORDS_PER_ROW};
+use crate::sections::{self, Sections, WORDS_PER_RECORD, WORDS_PER_ROW};
 
-/// Spoils a word of edition 1's effects, rows or records.
-pub(super) fn spoil_a_factor_word(rng: &mut Rng, words: &mut [i32], sections: &Sections) {
+/// Spoils a word of the effects, rows or records of a job that has them all; of
+/// edition 2's effects one or more words of one.
+pub(super) fn spoil_a_factor_word(
+    rng: &mut Rng,
+    words: &mut [i32],
+    sections: &Sections,
+    edition: Edition,
+) {
     let (effects, records) = (words[sections::EFFECTS], words[sections::RECORDS]);
     let section = rng.pick(&[&sections.effects, &sections.rows, &sections.records]);
     // There are always rows.
@@ -20,8 +27,14 @@ pub(super) fn spoil_a_factor_word(rng: &mut Rng, words: &mut [i32], sections: &S
     };
     let place = section.start + first_last_or_any(rng, section.len());
     let within = place - section.start;
+    let words_per_effect = edition.words_per_effect();
+    if edition == Edition::Two && section == &sections.effects {
+        let effect = place - within % words_per_effect;
+        spoil_a_wide_effect(rng, &mut words[effect..][..words_per_effect]);
+        return;
+    }
     words[place] = if section == &sections.effects {
-        match within % WORDS_PER_EFFECT {
+        match within % words_per_effect {
             0 => outside(rng, -1_000_000_000, 1_000_000_000),
             _ => outside(rng, 1, 2),
         }
@@ -73,7 +86,7 @@ pub(super) fn spoil_the_count(rng: &mut Rng, words: &mut Vec<i32>, edition: Edit
 /// width has its band, so it is left.
 fn counting_words(edition: Edition) -> &'static [(usize, i64, i64)] {
     match edition {
-        Edition::One => &[
+        Edition::One | Edition::Two => &[
             (sections::PIECES, 1, 20),
             (sections::SPACING, 10, 50),
             (sections::WIDTH, 300, 2079),
@@ -111,7 +124,7 @@ pub(super) fn spoil_a_header_word(rng: &mut Rng, words: &mut [i32], edition: Edi
 fn outside_later_limits(rng: &mut Rng, place: usize, edition: Edition) -> i32 {
     let limits = later_header_word_limits(place, edition);
     let outside = outside(rng, *limits.start(), *limits.end());
-    if edition == Edition::One {
+    if edition != Edition::Four {
         return outside;
     }
     let of_edition_1 = later_header_word_limits(place, Edition::One);

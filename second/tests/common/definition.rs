@@ -1,5 +1,5 @@
-//! What 01 and 02 "Farm bridges" make due for a job, by trying everything that
-//! they name: every station and side, every centre in n-ths of a cm, every lane
+//! What 01, 02 "Farm bridges" and "Effects past a word" make due for a job, by
+//! trying everything that they name: every station and side, every centre in n-ths of a cm, every lane
 //! set and HO lane, every row with every k and every omission. Of the crate only the shape of an answer is
 //! used, so a slip in the solver, or in what the solver and the checker share,
 //! shows beside it.
@@ -95,6 +95,7 @@ impl Parts<'_> {
 fn header_words(words: &[i64]) -> Option<usize> {
     match words.first()? {
         1 => Some(10),
+        2 => Some(12),
         4 => Some(11),
         _ => None,
     }
@@ -104,11 +105,27 @@ fn is_farm_job(header: &[i64]) -> bool {
     header[0] == 4
 }
 
+/// Words of an effect's value.
+fn value_words(header: &[i64]) -> usize {
+    1 + usize::from(header[0] == 2)
+}
+
+/// An effect's value in its edition's unit, and how many N·U that is.
+fn value_and_unit(effect: &[i64]) -> (i64, i64) {
+    match effect {
+        [low, high, _] => ((high << 32) + low.rem_euclid(1 << 32), 1),
+        _ => (effect[0], 1000),
+    }
+}
+
 fn section_lengths(header: &[i64]) -> [usize; 5] {
     let [pieces, spacing, width] = [header[2], header[3], header[4]];
     let [effects, rows, records] = [header[7], header[8], header[9]];
     let spaces = width / spacing + i64::from(width % spacing != 0);
-    [2 * pieces, spaces + 1, 2 * effects, 4 * rows, 3 * records].map(|words| words as usize)
+    let effect_words = 1 + value_words(header) as i64;
+    let lengths = [2 * pieces, spaces + 1, effect_words * effects, 4 * rows];
+    let [line, transverse, effects, rows] = lengths.map(|words| words as usize);
+    [line, transverse, effects, rows, 3 * records as usize]
 }
 
 /// The lowest refusal with its lowest place; 11 comes after 2.
@@ -140,7 +157,7 @@ fn refusal(bytes: usize, words: &[i64], patch_bytes: usize) -> Option<(u64, usiz
     let sections = [
         ("line", job.line, 2),
         ("transverse", job.transverse, 1),
-        ("effects", job.effects, 2),
+        ("effects", job.effects, 1 + value_words(words)),
         ("rows", job.rows, 4),
         ("records", job.records, 3),
     ];
@@ -198,6 +215,7 @@ fn header_word_is_lawful(words: &[i64], place: usize) -> bool {
         7 => (0, 16),
         8 => (1, 32),
         9 => (0, 512),
+        _ if words[0] == 2 => (0, 0),
         _ => (1, 3),
     };
     from <= word && word <= to
@@ -210,6 +228,14 @@ fn limits(header: &[i64], section: &str, at: usize, within: usize, group: &[i64]
     match (section, within) {
         ("line", _) => (-5000, 5000),
         ("transverse", _) => (-1000, 1000),
+        // A word of a value in halves is at fault only where it is the low one
+        // and the value is outside.
+        ("effects", 0) if value_words(header) == 2 => {
+            let most = 100_000_000_000_000;
+            let within = (-most..=most).contains(&value_and_unit(group).0);
+            [(1, 0), (i64::MIN, i64::MAX)][usize::from(within)]
+        }
+        ("effects", 1) if value_words(header) == 2 => (i64::MIN, i64::MAX),
         ("effects", 0) => (-1_000_000_000, 1_000_000_000),
         ("effects", _) if is_farm_job(header) => [(1, 1), (2, 2)][usize::from(at >= 3)],
         ("effects", _) | ("rows", 0) => (1, 2),
@@ -468,12 +494,11 @@ fn put_governing(value: i64, tried: &[(i64, u32, u32)], reported: &mut Governing
 fn in_row(job: &Parts, row: &RowParts, traffic: [Furthest; 2]) -> Furthest {
     let mut sums = vec![0];
     for &[number, factor] in &row.effects {
-        let effect = &job.effects[2 * (number as usize - 1)..][..2];
-        let kept: Vec<i64> = sums
-            .iter()
-            .map(|sum| sum + factor * 1000 * effect[0])
-            .collect();
-        if effect[1] == 2 {
+        let each = 1 + value_words(job.header);
+        let effect = &job.effects[each * (number as usize - 1)..][..each];
+        let (value, unit) = value_and_unit(effect);
+        let kept: Vec<i64> = sums.iter().map(|sum| sum + factor * unit * value).collect();
+        if effect[each - 1] == 2 {
             sums.extend(kept);
         } else {
             sums = kept;

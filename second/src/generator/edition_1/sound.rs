@@ -50,7 +50,7 @@ pub fn sound_job(rng: &mut Rng) -> Job {
 
 /// A job with every number at an end of its limits, so that the values are the
 /// largest there are.
-fn extreme_job(rng: &mut Rng) -> Job {
+pub(crate) fn extreme_job(rng: &mut Rng) -> Job {
     let piece_length = sound_piece_length(rng);
     let spacing = rng.pick(&[10, 49, 50]);
     let width = rng.pick(&[1710, 2079]);

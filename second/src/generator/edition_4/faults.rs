@@ -1,13 +1,14 @@
 //! Makes faults of a farm job: a width outside its barriers' band, a mark or a
 //! value of an effect that is not lawful.
 
+use crate::edition::Edition;
 use crate::farm;
 use crate::generator::draws::outside;
 use crate::generator::header::ordinates_across;
 use crate::job::Job;
 use crate::refusals::width_band;
 use crate::rng::Rng;
-use crate::sections::{Sections, WIDTH, WORDS_PER_EFFECT};
+use crate::sections::{Sections, WIDTH};
 
 /// Takes a width within word 4's limits but outside the barriers' band, with as
 /// many transverse ordinates as it calls for.
@@ -33,9 +34,9 @@ pub(crate) fn widen_to_no_band(rng: &mut Rng, words: &mut [i32]) {
 
 /// Gives an effect a mark of another, one past both, or a value past its limits.
 pub(crate) fn spoil_an_effect_word(rng: &mut Rng, words: &mut [i32], sections: &Sections) {
-    let effects = sections.effects.len() / WORDS_PER_EFFECT;
-    let number = rng.index(effects);
-    let place = sections.effects.start + WORDS_PER_EFFECT * number;
+    let each = Edition::Four.words_per_effect();
+    let number = rng.index(sections.effects.len() / each);
+    let place = sections.effects.start + each * number;
     if rng.one_in(3) {
         words[place] = outside(rng, -1_000_000_000, 1_000_000_000);
     } else {

@@ -1,0 +1,399 @@
+//! The generator reaches every refusal and kind of place of a job of edition 2,
+//! every kind of value and the largest rows.
+
+use second::account::{Account, State};
+use second::generator::{case, damaged, faults_of, Case, Edition};
+use second::job::Job;
+use second::lanes::lane_count;
+use second::loads::Question;
+use second::rng::Rng;
+use second::sections::Sections;
+use second::words::{joined, words_of};
+use second::{chosen, solve, store, Answer};
+use std::collections::BTreeSet;
+use std::ops::Range;
+
+const CASES: u64 = 20_000;
+const MOST: i64 = 100_000_000_000_000;
+
+/// What is worth reaching about a case.
+fn labels(case: &Case, answer: &Answer) -> Vec<String> {
+    let words = words_of(&case.job);
+    if answer.refusal != 0 {
+        return refusal_labels(case, &words, answer);
+    }
+    let job = Job::decode(&words);
+    if job.edition != Edition::Two {
+        return vec![];
+    }
+    let mut labels = job_labels(&job);
+    labels.extend(value_labels(&job));
+    labels.extend(outcome_labels(&job, &answer.account));
+    labels
+}
+
+fn refusal_labels(case: &Case, words: &[i32], answer: &Answer) -> Vec<String> {
+    let (number, place) = (answer.refusal, answer.place as usize);
+    let of_edition_2 = words.first() == Some(&2);
+    let mut labels = match number {
+        1 => not_a_job_labels(case, words),
+        _ if !of_edition_2 => vec!["in another edition".into()],
+        2 => header_labels(words, place),
+        3 if words.len() < place => vec!["too few".into()],
+        3 => vec!["too many".into()],
+        9 => vec!["a short patch buffer".into()],
+        _ => section_labels(words, place),
+    };
+    let patch_is_short = || case.patch.len() < words[2] as usize;
+    let pieces_are_lawful = || (1..=1000).contains(&words[2]);
+    if of_edition_2 && ![1, 9].contains(&number) && pieces_are_lawful() && patch_is_short() {
+        labels.push("before 9".into());
+    }
+    let numbered = |label: String| format!("{number}: {label}");
+    labels.into_iter().map(numbered).collect()
+}
+
+fn not_a_job_labels(case: &Case, words: &[i32]) -> Vec<String> {
+    let bytes = case.job.len();
+    let label = match words.first() {
+        None => "no word 0".into(),
+        Some(2) if bytes < 48 => format!("{bytes} bytes"),
+        _ if !bytes.is_multiple_of(4) => "uneven".into(),
+        Some(edition @ (0 | 3 | 5 | -2)) => format!("edition {edition}"),
+        _ => "another edition".into(),
+    };
+    vec![label]
+}
+
+fn header_labels(words: &[i32], place: usize) -> Vec<String> {
+    let word = words[place];
+    let mut labels = vec![format!("word {place}"), format!("word {place} is {word}")];
+    if word.unsigned_abs() > 1_000_000 {
+        labels.push(format!("word {place} is far off"));
+    }
+    for later in [10, 11] {
+        if place < later && words[later] != 0 {
+            labels.push(format!("word {place} before {later}"));
+        }
+    }
+    labels
+}
+
+/// The place within its section, and what of an effect is at fault.
+fn section_labels(words: &[i32], place: usize) -> Vec<String> {
+    let sections = Sections::called_for_by(words);
+    let mut labels = vec![];
+    for (name, section, each) in [
+        ("piece", &sections.line, 2),
+        ("transverse", &sections.transverse, 1),
+        ("effect", &sections.effects, 3),
+        ("row", &sections.rows, 4),
+        ("record", &sections.records, 3),
+    ] {
+        if !section.contains(&place) {
+            continue;
+        }
+        let within = place - section.start;
+        labels.push(format!("{name} word {}", within % each));
+        for (holds, which) in [
+            (within < each, "first"),
+            (place + each >= section.end, "last"),
+        ] {
+            if holds {
+                labels.push(format!("{which} {name}"));
+            }
+        }
+        if name == "effect" {
+            labels.extend(effect_labels(words, &sections, place, within % each));
+        }
+    }
+    labels
+}
+
+fn effect_labels(words: &[i32], sections: &Sections, place: usize, at: usize) -> Vec<String> {
+    if at == 2 {
+        return vec![format!("mark {}", words[place])];
+    }
+    let (low, high) = (words[place], words[place + 1]);
+    let value = joined(low, high);
+    let side = if value > 0 { "above" } else { "below" };
+    let mut labels = vec![format!("{side} its limits")];
+    let mut reached = |holds: bool, label: &str| {
+        if holds {
+            labels.push(format!("{side}, {label}"));
+        }
+    };
+    reached(value.abs_diff(0) == MOST as u64 + 1, "by 1");
+    reached(high == 23_283 || high == -23_284, "a limit's high half");
+    reached(high == 23_284 || high == -23_285, "the next high half");
+    reached(high == i32::MAX || high == i32::MIN, "the last high half");
+    reached(low == 0, "a low half of 0");
+    reached(low < 0, "the low half's top bit");
+    reached(!(1..=2).contains(&words[place + 2]), "before its mark");
+    let row_fault = |rows: &Range<usize>| {
+        let mut states = words[rows.clone()].iter().step_by(4);
+        states.any(|state| !(1..=2).contains(state))
+    };
+    reached(row_fault(&sections.rows), "before a row");
+    labels
+}
+
+fn job_labels(job: &Job) -> Vec<String> {
+    let mut labels = vec![
+        format!("h {}", job.piece_length),
+        format!("{} lanes", lane_count(job.width)),
+        format!("dynamic kind {}", job.dynamic_kind),
+        format!("{} effects", job.effects.len()),
+        format!("{} rows", job.rows.len()),
+        format!("{} records", job.records.len()),
+    ];
+    for row in &job.rows {
+        labels.push(format!("live kind {}", row.live_kind));
+        let chain = job.chain(row);
+        labels.push(format!("a chain of {}", chain.len()));
+        if chain.len() == 16 && chain.iter().all(|record| record.factor == 3000) {
+            let signs: BTreeSet<i64> = job.effects.iter().map(|e| e.value.signum()).collect();
+            let at_limits = job.effects.iter().all(|effect| effect.value.abs() == MOST);
+            if at_limits {
+                labels.push(format!("sixteen at their limits, signs {signs:?}"));
+            }
+        }
+    }
+    labels
+}
+
+fn value_labels(job: &Job) -> Vec<String> {
+    let mut labels = vec![];
+    for (number, effect) in (1..).zip(&job.effects) {
+        let (value, mark) = (effect.value, effect.mark);
+        labels.push(format!("value {value}"));
+        if value.abs() == MOST {
+            labels.push(format!("{value} marked {mark}"));
+            labels.push(format!("effect {number} is {value}"));
+        }
+        let (low, high) = (value as i32, value >> 32);
+        if low < 0 {
+            labels.push(format!(
+                "the low half's top bit, high half {}",
+                high.signum()
+            ));
+        }
+        if high == -1 {
+            labels.push("a high half of -1".into());
+        }
+    }
+    labels
+}
+
+fn outcome_labels(job: &Job, account: &Account) -> Vec<String> {
+    let mut labels = vec![];
+    for (name, state) in [("service", account.service), ("ultimate", account.ultimate)] {
+        if state.present == 0 {
+            labels.push(format!("{name} none"));
+            continue;
+        }
+        for question in Question::BOTH {
+            let outcomes = state_labels(job, &state, question);
+            labels.extend(outcomes.map(|label| format!("{name} {question:?}{label}")));
+        }
+    }
+    labels
+}
+
+fn state_labels(job: &Job, state: &State, question: Question) -> impl Iterator<Item = String> {
+    let governing = *state.governing(question);
+    let row = job.rows[governing.row as usize - 1];
+    let later = &job.rows[governing.row as usize..];
+    let size = governing.value.unsigned_abs();
+    [
+        (true, format!(" of kind {}", row.live_kind)),
+        (governing.omitted != 0, " leaves out effects".into()),
+        (later.contains(&row), " ties".into()),
+        (governing.row > 1, " past row 1".into()),
+        (size > 4_800_000_000_000_000_000, " past 4.8e18".into()),
+        (size == 4_800_100_269_000_000_000, " is the largest".into()),
+        (size > 1 << 32, " past 32 bits".into()),
+    ]
+    .into_iter()
+    .filter_map(|(holds, label)| holds.then_some(label))
+}
+
+fn expected_labels() -> BTreeSet<String> {
+    let mut expected = expected_refusals();
+    expected.extend(expected_effect_faults());
+    expected.extend(expected_jobs());
+    expected.extend(expected_outcomes());
+    expected.into_iter().collect()
+}
+
+fn expected_refusals() -> Vec<String> {
+    let mut expected: Vec<String> = [
+        "1: no word 0",
+        "1: uneven",
+        "1: another edition",
+        "3: too few",
+        "3: too many",
+        "4: piece word 0",
+        "4: piece word 1",
+        "4: transverse word 0",
+        "5: piece word 0",
+        "6: first effect",
+        "6: last effect",
+        "7: row word 0",
+        "8: row word 0",
+        "9: a short patch buffer",
+    ]
+    .map(String::from)
+    .to_vec();
+    expected.extend([40, 43, 44, 47].map(|bytes| format!("1: {bytes} bytes")));
+    expected.extend([0, 3, 5, -2].map(|edition| format!("1: edition {edition}")));
+    expected.extend((1..=11).map(|place| format!("2: word {place}")));
+    for place in [10, 11] {
+        expected.extend([1, -1].map(|word| format!("2: word {place} is {word}")));
+        expected.push(format!("2: word {place} is far off"));
+        expected.extend((1..place).map(|lower| format!("2: word {lower} before {place}")));
+    }
+    expected.extend((2..=8).map(|number| format!("{number}: before 9")));
+    for (name, words) in [("row", 4), ("record", 3)] {
+        expected.extend((0..words).map(|word| format!("6: {name} word {word}")));
+    }
+    expected
+}
+
+fn expected_effect_faults() -> Vec<String> {
+    let mut expected = vec!["6: effect word 0".into(), "6: effect word 2".into()];
+    expected.extend([0, 3].map(|mark| format!("6: mark {mark}")));
+    for side in ["above", "below"] {
+        expected.push(format!("6: {side} its limits"));
+        for label in [
+            "by 1",
+            "a limit's high half",
+            "the next high half",
+            "the last high half",
+            "a low half of 0",
+            "the low half's top bit",
+            "before its mark",
+            "before a row",
+        ] {
+            expected.push(format!("6: {side}, {label}"));
+        }
+    }
+    expected
+}
+
+fn expected_jobs() -> Vec<String> {
+    let mut expected: Vec<String> = [
+        "a chain of 0",
+        "a chain of 16",
+        "sixteen at their limits, signs {1}",
+        "sixteen at their limits, signs {-1}",
+        "sixteen at their limits, signs {-1, 1}",
+        "a high half of -1",
+        "the low half's top bit, high half -1",
+        "the low half's top bit, high half 0",
+        "the low half's top bit, high half 1",
+    ]
+    .map(String::from)
+    .to_vec();
+    expected.extend([1, 2, 5, 10, 25, 50].map(|h| format!("h {h}")));
+    expected.extend((1..=5).map(|lanes| format!("{lanes} lanes")));
+    expected.extend((1..=3).map(|kind| format!("dynamic kind {kind}")));
+    expected.extend((0..=2).map(|kind| format!("live kind {kind}")));
+    expected.extend([0, 1, 16].map(|effects| format!("{effects} effects")));
+    expected.extend([1, 32].map(|rows| format!("{rows} rows")));
+    expected.extend([0, 512].map(|records| format!("{records} records")));
+    for side in [1, -1] {
+        let around = [1 << 31, 1 << 32].map(|end| [end - 1, end, end + 1]);
+        let values = [0, 1, MOST - 1, MOST].into_iter().chain(around.concat());
+        expected.extend(values.map(|value| format!("value {}", side * value)));
+        let limit = side * MOST;
+        expected.extend([1, 2].map(|mark| format!("{limit} marked {mark}")));
+        expected.extend((1..=16).map(|effect| format!("effect {effect} is {limit}")));
+    }
+    expected
+}
+
+fn expected_outcomes() -> Vec<String> {
+    let mut expected = vec![];
+    for name in ["service", "ultimate"] {
+        expected.push(format!("{name} none"));
+        for question in ["Greatest", "Least"] {
+            expected.extend((0..=2).map(|kind| format!("{name} {question} of kind {kind}")));
+            for label in [
+                "leaves out effects",
+                "ties",
+                "past row 1",
+                "past 4.8e18",
+                "past 32 bits",
+            ] {
+                expected.push(format!("{name} {question} {label}"));
+            }
+        }
+    }
+    expected.extend(["Greatest", "Least"].map(|q| format!("ultimate {q} is the largest")));
+    expected
+}
+
+#[track_caller]
+fn reach_all(cases: impl Iterator<Item = Case>) {
+    let mut reached = BTreeSet::new();
+    for case in cases {
+        let answer = solve(&case.job, &mut case.patch.clone());
+        reached.extend(labels(&case, &answer));
+    }
+    let missed: Vec<_> = expected_labels().difference(&reached).cloned().collect();
+    assert!(missed.is_empty(), "never reached: {missed:#?}");
+}
+
+#[test]
+fn every_refusal_value_and_outcome_is_reached() {
+    reach_all((0..CASES).map(|seed| case(Edition::Two, seed)));
+}
+
+#[test]
+fn the_stored_cases_reach_every_refusal_value_and_outcome() {
+    let edition = Edition::Two;
+    reach_all(store::generated_cases(edition).chain(chosen::cases(edition)));
+}
+
+/// A single fault gets its own refusal; the count's fault may leave the count as
+/// it was or make the line too long.
+#[test]
+fn a_fault_alone_gives_its_refusal() {
+    for &fault in faults_of(Edition::Two) {
+        let hits = (0..200).filter(|&seed| {
+            let case = damaged(&mut Rng::new(seed), Edition::Two, &[fault]);
+            solve(&case.job, &mut case.patch.clone()).refusal == fault
+        });
+        let least = if fault == 3 { 180 } else { 200 };
+        assert!(hits.count() >= least, "refusal {fault}");
+    }
+}
+
+/// Of two faults the lower refusal is given.
+#[test]
+fn two_faults_give_the_lower_refusal() {
+    for low in [1, 2, 4, 5, 6, 7, 8] {
+        for high in low + 1..=9 {
+            for seed in 0..20 {
+                let case = damaged(&mut Rng::new(seed), Edition::Two, &[low, high]);
+                let answer = solve(&case.job, &mut case.patch.clone());
+                assert_eq!(answer.refusal, low, "{low} and {high}, seed {seed}");
+            }
+        }
+    }
+}
+
+/// A seed's case is fixed: this sum over many cases (FNV-1a) never changes,
+/// whatever other editions bring.
+#[test]
+fn the_cases_of_edition_2_never_change() {
+    let mut sum = 0xcbf2_9ce4_8422_2325_u64;
+    for seed in 0..2000 {
+        let case = case(Edition::Two, seed);
+        for byte in case.job.into_iter().chain(case.patch) {
+            sum = (sum ^ u64::from(byte)).wrapping_mul(0x0000_0100_0000_01B3);
+        }
+    }
+    assert_eq!(sum, 15_329_208_469_268_208_468);
+}
