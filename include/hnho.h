@@ -26,7 +26,7 @@ extern "C" {
 #define HNHO_ACCOUNT_NUMBERS 157
 #define HNHO_LANES 10  /* lanes of a placement */
 #define HNHO_MOST_PATCH_BYTES 1000  /* a patch buffer that is long enough for every job: N is at most 1000 */
-#define HNHO_MOST_JOB_BYTES 15660  /* the longest job of any edition that can be accepted: 3915 words */
+#define HNHO_MOST_JOB_BYTES 15732  /* the longest job of any edition that can be accepted: 3933 words */
 #define HNHO_RATING_BYTES 72  /* a train's report: HNHO_RATING_NUMBERS numbers of 8 bytes */
 #define HNHO_RATING_NUMBERS 9
 #define HNHO_MOST_AXLES 12  /* of a train */
@@ -45,7 +45,7 @@ uint32_t hnho_layout(void);
  *
  * account, account_bytes: HNHO_ACCOUNT_BYTES or more. The first HNHO_ACCOUNT_BYTES bytes get the account, zeros on a refusal;
  * bytes past them keep their contents. A shorter buffer is refused with 2 at place 0: all of its bytes are set to 0, the patch
- * buffer keeps its contents and the job is not looked at. (A job's own refusal 2 has a place from 1 to 10.)
+ * buffer keeps its contents and the job is not looked at. (A job's own refusal 2 has a place from 1 to 11.)
  *
  * Result: 0 for acceptance, else 256 times the place plus the refusal's number; hnho_refusal and hnho_place take it apart.
  *
@@ -101,11 +101,11 @@ uint64_t hnho_train(size_t h, size_t pieces, const uint8_t *line, size_t line_by
 enum hnho_refusal_number {
   HNHO_ACCEPTED = 0,
   HNHO_NOT_A_JOB = 1,       /* 0 */
-  HNHO_HEADER_LIMIT = 2,    /* the word, 1 to 10 (N times h over 1000 counts at 2); 0 for a short buffer, and in hnho_train */
+  HNHO_HEADER_LIMIT = 2,    /* the word, 1 to 11 (N times h over 1000 counts at 2); 0 for a short buffer, and in hnho_train */
   HNHO_WORD_COUNT = 3,      /* the number of words due */
   HNHO_ORDINATE_LIMIT = 4,  /* the word */
   HNHO_PIECE_CROSSES = 5,   /* the piece's left ordinate */
-  HNHO_TABLE_LIMIT = 6,     /* the word */
+  HNHO_TABLE_LIMIT = 6,     /* the word; for a value of two words its low half, whichever half is at fault */
   HNHO_CHAIN_RETURNS = 7,   /* the row's first word */
   HNHO_EFFECT_TWICE = 8,    /* the row's first word */
   HNHO_PATCH_SHORT = 9,     /* N */
@@ -114,7 +114,11 @@ enum hnho_refusal_number {
 };
 
 /* The edition of a job. */
-enum hnho_edition { HNHO_EDITION_HIGHWAY = 1, HNHO_EDITION_RURAL = 4 };
+enum hnho_edition {
+  HNHO_EDITION_HIGHWAY = 1,
+  HNHO_EDITION_WIDE = 2,  /* a highway bridge's, with effects past a word */
+  HNHO_EDITION_RURAL = 4
+};
 
 /* The barriers of a farm bridge, with the clear widths in cm that go with each, both ends allowed. */
 enum hnho_barriers {
@@ -125,7 +129,7 @@ enum hnho_barriers {
 
 /* The words of a job, by place.
  *
- *   0  edition: 1, or 4 for a farm bridge
+ *   0  edition: 1, 2 for effects past a word, or 4 for a farm bridge
  *   1  h, piece length in dm: 1, 2, 5, 10, 25 or 50
  *   2  N, pieces: 1 to 1000, N times h at most 1000
  *   3  g, spacing of the transverse ordinates in cm: 10 to 50
@@ -135,12 +139,15 @@ enum hnho_barriers {
  *   7  E, effects: 0 to 16; 11 in edition 4
  *   8  R, rows: 1 to 32; 0 in edition 4
  *   9  C, chain records: 0 to 512; 0 in edition 4
- *  10  edition 4 alone: of enum hnho_barriers. W is then the clear width and within the barriers' band, else refusal 11
+ *  10  edition 4: of enum hnho_barriers. W is then the clear width and within the barriers' band, else refusal 11
+ *  10, 11  edition 2: 0 and 0
  *
- * After the header, from word 10 on, in edition 4 from word 11 on, one section after the other:
+ * After the header, from word 10 on, in edition 4 from word 11 on, in edition 2 from word 12 on, one section after the other:
  *   2 N    ordinates of the influence line, a left and a right one a piece: -5000 to 5000, in a unit U of the sender's
  *   M + 1  transverse ordinates, M = W / g rounded up: -1000 to 1000 in thousandths, the first at the left kerb
  *   2 E    effects: value in kN.U, -1000000000 to 1000000000; 1 always present, 2 may be left out
+ *   3 E    in edition 2: value in N.U, -100000000000000 to 100000000000000, in two words, the low half unsigned and then the high
+ *          half signed, as hnho_put_wide writes it; the same marks
  *   4 R    rows: 1 service, 2 ultimate; live kind 0 none, 1 normal, 2 overload; live factor 0 to 3000, 0 for kind 0; first record,
  *          0 to C, 0 for none
  *   3 C    records: effect 1 to E; factor 0 to 3000; next record, 0 to C, 0 for the end of the chain
@@ -163,6 +170,7 @@ enum hnho_word_place {
   HNHO_WORD_C = 9,
   HNHO_WORD_BARRIERS = 10,     /* in edition 4 */
   HNHO_HEADER_WORDS = 10,      /* of edition 1 */
+  HNHO_WIDE_HEADER_WORDS = 12,  /* of edition 2 */
   HNHO_RURAL_HEADER_WORDS = 11  /* of edition 4 */
 };
 
@@ -343,8 +351,8 @@ static inline const char *hnho_refusal_text(int number) {
   case HNHO_ACCEPTED:
     return "accepted";
   case HNHO_NOT_A_JOB:
-    return "under 10 words, in edition 4 under 11, a byte count that 4 does not divide, or word 0 is neither 1 nor 4; mended by "
-           "whoever packs the job";
+    return "under 10 words, in edition 4 under 11, in edition 2 under 12, a byte count that 4 does not divide, or word 0 is none "
+           "of 1, 2 and 4; mended by whoever packs the job";
   case HNHO_HEADER_LIMIT:
     return "a header word outside its limits; mended by whoever packs the job (at place 0 a short account or report buffer, or "
            "h, N, the section's length or the mode of a train's call outside its limits; mended by the host)";
@@ -450,6 +458,14 @@ static inline void hnho_put_word(uint8_t *words, size_t place, int32_t word) {
   uint32_t bits = (uint32_t)word;
   size_t i;
   for (i = 0; i < 4; i++)
+    words[4 * place + i] = (uint8_t)(bits >> 8 * i & 255u);
+}
+
+/* Writes an effect's value of edition 2, in N.U: its low half into the word at this place, its high half into the next. */
+static inline void hnho_put_wide(uint8_t *words, size_t place, int64_t value) {
+  uint64_t bits = (uint64_t)value;
+  size_t i;
+  for (i = 0; i < 8; i++)
     words[4 * place + i] = (uint8_t)(bits >> 8 * i & 255u);
 }
 

@@ -1,6 +1,7 @@
 #!/usr/bin/env bash
 # The C side: installs the kernel, compiles the header and the C files with warnings as errors, runs them under the address and
-# undefined-behaviour sanitizers, and holds the examples' output to examples/*.expected, the stored cases' to crates/replay/stdout.
+# undefined-behaviour sanitizers, and holds the examples' output to examples/*.expected, the job that arch packs to
+# examples/arch-job.bin and the stored cases' output to crates/replay/stdout.
 # The examples are built by pkg-config from a moved installation too, outside the repository, as C and as C++. Its products are in
 # target/c.
 set -u
@@ -40,6 +41,11 @@ page() {
   local expected=$1
   shift
   "$@" >target/c/example.out && diff -u "$expected" target/c/example.out
+}
+
+# packs EXAMPLE: the example writes the arch job
+packs() {
+  "$1" >target/c/example.out && cmp target/c/example.out examples/arch-job.bin
 }
 
 # fails STATUS TEXT EXAMPLE ARGUMENT..: the example prints nothing, says this and has this status
@@ -98,7 +104,20 @@ for example in host truck; do
     "target/c/other/$example" "${arguments[@]}"
 done
 
-step 'the page of the farm job' page examples/farm-job.expected target/c/host examples/farm-job.bin
+for job in farm arch; do
+  step "the page of the $job job" page "examples/$job-job.expected" target/c/host "examples/$job-job.bin"
+done
+step 'compiling examples/arch.c' compile examples/arch.c target/c/arch
+step 'the job that arch packs' packs target/c/arch
+
+# the arch job with a 1 in word 11, and with the high half of its first effect past every limit
+{ head -c 44 examples/arch-job.bin; printf '\1\0\0\0'; tail -c +49 examples/arch-job.bin; } >target/c/word-11.bin
+step 'an arch job with a 1 in word 11' fails 1 "refused 2 at 11: a header word outside its limits; mended by whoever packs the job \
+(at place 0 a short account or report buffer, or h, N, the section's length or the mode of a train's call outside its limits; mended \
+by the host)" target/c/host target/c/word-11.bin
+{ head -c 288 examples/arch-job.bin; printf '\0\0\0\1'; tail -c +293 examples/arch-job.bin; } >target/c/far.bin
+step 'an effect of an arch job past its limits' fails 1 "refused 6 at 71: a word of an effect, a row or a record outside its limits; \
+mended by whoever keeps the factors" target/c/host target/c/far.bin
 
 # the farm job with W 369, too narrow for traffic barriers
 { head -c 16 examples/farm-job.bin; printf '\161\1\0\0'; tail -c +21 examples/farm-job.bin; } >target/c/narrow.bin
@@ -142,13 +161,17 @@ away=$(mktemp -d) || exit 2
 trap 'rm -rf "$away"' EXIT
 step 'an installation' install_in "$away" first
 step 'moving the installation' mv "$away/first" "$away/moved"
-step 'a copy of the examples' cp examples/host.c examples/truck.c "$away"
+step 'a copy of the examples' cp examples/host.c examples/truck.c examples/arch.c "$away"
 for compiler in 'gcc -std=c99' 'g++ -x c++ -std=c++98' 'g++ -x c++ -std=c++20'; do
   for example in host truck; do
     declare -n arguments=$example
     step "$example by $compiler and pkg-config" outside "$away" "$example" $compiler
     step "the page of $example by $compiler and pkg-config" page "examples/$example.expected" "$away/$example" "${arguments[@]}"
   done
-  step "the page of the farm job by $compiler and pkg-config" page examples/farm-job.expected "$away/host" examples/farm-job.bin
+  for job in farm arch; do
+    step "the page of the $job job by $compiler and pkg-config" page "examples/$job-job.expected" "$away/host" "examples/$job-job.bin"
+  done
+  step "arch by $compiler and pkg-config" outside "$away" arch $compiler
+  step "the job that arch packs by $compiler and pkg-config" packs "$away/arch"
 done
 printf 'c.sh: the header, the example hosts, the edges, the stored cases and the installation are as due\n'

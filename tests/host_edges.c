@@ -1,6 +1,6 @@
 /* The edges of hnho_solve: null pointers, odd lengths, short, exact and long buffers, one refusal of each number; every number of
- * Job A's account and of a farm job's; the limits of edition 4; and the header's own functions. Expected numbers are the documents'
- * or worked out from them by hand.
+ * Job A's account and of a farm job's; the limits of editions 2 and 4; and the header's own functions. Expected numbers are the
+ * documents' or worked out from them by hand.
  * Every buffer has guard bytes on both sides; every byte that must keep its contents is looked at.
  *
  *   host_edges JOB-A
@@ -22,8 +22,15 @@ enum {
   FARM_WORDS = 42, /* of the farm job at W 300 */
   FARM_MOST_WORDS = 78, /* at W 2080 */
   FARM_LINE_AT = 11,
-  FARM_EFFECTS = 11
+  FARM_EFFECTS = 11,
+  WIDE_LINE_AT = 12, /* of a job of edition 2 */
+  WIDE_EFFECTS_AT = 21,
+  WIDE_MOST_EFFECTS = 16,
+  WIDE_MOST_WORDS = 21 + 3 * WIDE_MOST_EFFECTS + 8 + 3 * WIDE_MOST_EFFECTS
 };
+
+/* The furthest that an effect of edition 2 is from 0, in N.U. */
+#define WIDE_MOST INT64_C(100000000000000)
 
 /* Job A, as it was read. */
 static uint8_t job_a[4 * WORDS];
@@ -163,6 +170,50 @@ static void expect_farm_job(struct buffer patch, struct buffer account) {
   expect(a.first_lanes == 1 && a.second_lanes == 0 && a.records_walked == 0, "lanes and records");
 }
 
+/* The job of edition 2 that pack_wide packs: its effects, all with one mark, and their factor in both rows. */
+static int64_t wide_value[WIDE_MOST_EFFECTS];
+static int32_t wide_effects, wide_mark, wide_factor;
+
+/* A value of the job: what its effects on one side of 0 come to where they may be left out, else all of them, and the traffic. Which
+ * are left out is known but for those of 0. */
+static void expect_wide_governing(struct hnho_governing g, int side, int64_t row, int64_t traffic, const char *what) {
+  int64_t value = traffic, left_out = 0, zeros = 0;
+  int32_t i;
+  for (i = 0; i < wide_effects; i++) {
+    int against = side > 0 ? wide_value[i] < 0 : wide_value[i] > 0;
+    if (wide_mark == 2 && wide_value[i] == 0)
+      zeros |= INT64_C(1) << i;
+    else if (wide_mark == 2 && against)
+      left_out |= INT64_C(1) << i;
+    else
+      value += wide_factor * wide_value[i];
+  }
+  expect(g.value == value && g.row == row, what);
+  expect((g.left_out & ~zeros) == left_out, what);
+  expect(g.k == 0, what);
+}
+
+/* The account of that job. Its line is the farm job's, with W 300, all transverse ordinates 1000 and the dynamic factor 1: HN is 18400,
+ * HO 7 * 50 * 16 + 3200 * 8 = 31200, times 1000 * 20 * 1000 * 3 / 800000 = 75 are 1380000 and 2340000 N.U. Row 1 is service without
+ * traffic, row 2 ultimate with overload at 3000. */
+static void expect_wide_job(struct buffer patch, struct buffer account) {
+  struct hnho_account a;
+  expect(all_are(patch.bytes, 0, 1, HNHO_PATCH_RAISING), "the patch byte is not the job's");
+  expect(all_are(patch.bytes, 1, patch.n, OLD_PATCH), "bytes past N changed");
+  expect(all_are(account.bytes, HNHO_ACCOUNT_BYTES, account.n, OLD_ACCOUNT), "bytes past the account changed");
+  hnho_read_account(account.bytes, &a);
+  expect(a.normal_greatest == 1380000 && a.normal_least == 0, "the normal values");
+  expect(a.overload_greatest == 2340000 && a.overload_least == 0, "the overload values");
+  expect(a.overload_greatest_placement.set == 1 && a.overload_greatest_placement.lane[0].entry == HNHO_HO_RAISING, "the HO lane");
+  expect(a.service.reported == 1 && a.ultimate.reported == 1, "a state");
+  expect_wide_governing(a.service.greatest, 1, 1, 0, "service greatest");
+  expect_wide_governing(a.service.least, -1, 1, 0, "service least");
+  expect_wide_governing(a.ultimate.greatest, 1, 2, INT64_C(3000) * 2340000, "ultimate greatest");
+  expect_wide_governing(a.ultimate.least, -1, 2, 0, "ultimate least");
+  expect(a.service.greatest.unladen == 0 && a.ultimate.greatest.unladen == 0, "the traffic");
+  expect(a.first_lanes == 1 && a.second_lanes == 0 && a.records_walked == 0, "lanes and records");
+}
+
 /* What an accepted job's buffers are held to. */
 static void (*expect_accepted)(struct buffer patch, struct buffer account) = expect_job_a;
 
@@ -255,7 +306,8 @@ static void patch_lengths(void) {
 
 static void refusals(void) {
   size_t word;
-  call_changed("edition 2", HNHO_WORD_EDITION, 2, HNHO_NOT_A_JOB, 0);
+  call_changed("edition 3", HNHO_WORD_EDITION, 3, HNHO_NOT_A_JOB, 0);
+  call_changed("Job A as edition 2, 50 in word 11", HNHO_WORD_EDITION, HNHO_EDITION_WIDE, HNHO_HEADER_LIMIT, 11);
   call_changed("Job A as edition 4", HNHO_WORD_EDITION, HNHO_EDITION_RURAL, HNHO_HEADER_LIMIT, HNHO_WORD_E);
   for (word = 1; word < HNHO_HEADER_WORDS; word++)
     call_changed("a header word of -1", word, -1, HNHO_HEADER_LIMIT, word);
@@ -365,13 +417,14 @@ static void farm_lengths(void) {
 }
 
 static void farm_refusals(void) {
-  static const int32_t editions[] = {0, 2, 3, 5, -4, INT32_MIN, INT32_MAX};
+  static const int32_t editions[] = {0, 3, 5, -4, INT32_MIN, INT32_MAX};
   static const int32_t barriers[] = {0, 4, -1, INT32_MIN, INT32_MAX};
   const size_t effects_at = FARM_WORDS - 2 * FARM_EFFECTS;
   size_t i;
   for (i = 0; i < sizeof editions / sizeof *editions; i++)
     call_farm_changed("another edition", HNHO_WORD_EDITION, editions[i], HNHO_NOT_A_JOB, 0);
   call_farm_changed("the farm job as edition 1", HNHO_WORD_EDITION, HNHO_EDITION_HIGHWAY, HNHO_HEADER_LIMIT, HNHO_WORD_R);
+  call_farm_changed("the farm job as edition 2", HNHO_WORD_EDITION, HNHO_EDITION_WIDE, HNHO_HEADER_LIMIT, HNHO_WORD_R);
   for (i = 1; i < HNHO_RURAL_HEADER_WORDS; i++)
     call_farm_changed("a header word of -1", i, -1, HNHO_HEADER_LIMIT, i);
   call_farm_changed("ten effects", HNHO_WORD_E, 10, HNHO_HEADER_LIMIT, HNHO_WORD_E);
@@ -401,6 +454,200 @@ static void farm_jobs(void) {
   farm_lengths();
   farm_refusals();
   expect_accepted = expect_job_a;
+}
+
+/* Packs the job of edition 2; its words. */
+static size_t pack_wide(uint8_t *job) {
+  const int32_t header[HNHO_WIDE_HEADER_WORDS] = {HNHO_EDITION_WIDE, 50, 1, 50, 300, 2, 0, wide_effects, 2, wide_effects, 0, 0};
+  const int32_t rows[] = {1, 0, 0, wide_effects > 0, 2, 2, 3000, wide_effects > 0};
+  size_t words = 0, i;
+  int32_t effect;
+  for (i = 0; i < HNHO_WIDE_HEADER_WORDS; i++)
+    hnho_put_word(job, words++, header[i]);
+  for (i = 0; i < 2; i++)
+    hnho_put_word(job, words++, 8);
+  for (i = 0; i < 7; i++)
+    hnho_put_word(job, words++, 1000);
+  for (effect = 0; effect < wide_effects; effect++, words += 3) {
+    hnho_put_wide(job, words, wide_value[effect]);
+    hnho_put_word(job, words + 2, wide_mark);
+  }
+  for (i = 0; i < sizeof rows / sizeof *rows; i++)
+    hnho_put_word(job, words++, rows[i]);
+  for (effect = 1; effect <= wide_effects; effect++) {
+    hnho_put_word(job, words++, effect);
+    hnho_put_word(job, words++, wide_factor);
+    hnho_put_word(job, words++, effect < wide_effects ? effect + 1 : 0);
+  }
+  return words;
+}
+
+static void call_wide(const char *name, int number, uint64_t place) {
+  uint8_t job[4 * WIDE_MOST_WORDS];
+  size_t words = pack_wide(job);
+  step = name;
+  call(job, 4 * words, 1, HNHO_ACCOUNT_BYTES, 0, number, place);
+}
+
+/* The job with up to two words changed. */
+static void call_wide_changed(const char *name, size_t word, int32_t value, size_t other, int32_t other_value, int number,
+                              uint64_t place) {
+  uint8_t job[4 * WIDE_MOST_WORDS];
+  size_t words = pack_wide(job);
+  step = name;
+  hnho_put_word(job, word, value);
+  hnho_put_word(job, other, other_value);
+  call(job, 4 * words, 1, HNHO_ACCOUNT_BYTES, 0, number, place);
+}
+
+/* One effect of each value of note, with either mark and with the smallest and the largest factor that counts. */
+static void wide_values(void) {
+  static const int64_t values[] = {
+    0, 1, -1, INT64_C(2147483647), INT64_C(2147483648), INT64_C(-2147483648), INT64_C(-2147483649), INT64_C(4294967295),
+    INT64_C(4294967296), INT64_C(-4294967295), INT64_C(-4294967296), INT64_C(-4294967297), INT64_C(6442450944), INT64_C(-6442450944),
+    WIDE_MOST - 1, WIDE_MOST, -WIDE_MOST + 1, -WIDE_MOST
+  };
+  size_t i;
+  wide_effects = 1;
+  for (i = 0; i < sizeof values / sizeof *values; i++)
+    for (wide_mark = 1; wide_mark <= 2; wide_mark++)
+      for (wide_factor = 1; wide_factor <= 3000; wide_factor += 2999) {
+        wide_value[0] = values[i];
+        call_wide("a value of edition 2", HNHO_ACCEPTED, 0);
+      }
+}
+
+/* Sixteen effects at their limits and at the largest factor in one row: 4.8e18 and the traffic, of either sign and of both. */
+static void wide_rows(void) {
+  int32_t signs, i;
+  wide_effects = WIDE_MOST_EFFECTS;
+  wide_factor = 3000;
+  for (signs = 0; signs < 4; signs++)
+    for (wide_mark = 1; wide_mark <= 2; wide_mark++) {
+      for (i = 0; i < wide_effects; i++)
+        wide_value[i] = (signs >> i % 2 & 1) == 0 ? WIDE_MOST : -WIDE_MOST;
+      call_wide("sixteen effects of edition 2 in one row", HNHO_ACCEPTED, 0);
+    }
+  wide_effects = 0;
+  call_wide("no effects in edition 2", HNHO_ACCEPTED, 0);
+}
+
+/* The front of a job of edition 2: twelve words are due for its header, and three for each effect. */
+static void wide_lengths(void) {
+  uint8_t job[4 * WIDE_MOST_WORDS];
+  size_t words = pack_wide(job), n;
+  step = "the front of a job of edition 2";
+  expect(words == WIDE_EFFECTS_AT + 3 * 2 + 2 * 4 + 3 * 2, "its words");
+  for (n = 0; n < 4 * words; n++)
+    if (n < 4 * HNHO_WIDE_HEADER_WORDS || n % 4 != 0)
+      call(job, n, 1, HNHO_ACCOUNT_BYTES, 0, HNHO_NOT_A_JOB, 0);
+    else
+      call(job, n, 1, HNHO_ACCOUNT_BYTES, 0, HNHO_WORD_COUNT, words);
+  step = "a job of edition 2 and one word";
+  hnho_put_word(job, words, 0);
+  call(job, 4 * words + 4, 1, HNHO_ACCOUNT_BYTES, 0, HNHO_WORD_COUNT, words);
+  step = "buffers longer than a job of edition 2 needs";
+  call(job, 4 * words, 9, HNHO_ACCOUNT_BYTES + 8, 0, HNHO_ACCEPTED, 0);
+  step = "a job of edition 2 without a patch buffer";
+  call(job, 4 * words, 0, HNHO_ACCOUNT_BYTES, 1, HNHO_PATCH_SHORT, 1);
+  step = "a job of edition 2 and a short account buffer";
+  call(job, 4 * words, 1, HNHO_ACCOUNT_BYTES - 1, 0, HNHO_HEADER_LIMIT, 0);
+  call_wide_changed("an effect more than there is", HNHO_WORD_E, 3, HNHO_WORD_R, 2, HNHO_WORD_COUNT, words + 3);
+  call_wide_changed("an effect fewer than there is", HNHO_WORD_E, 1, HNHO_WORD_R, 2, HNHO_WORD_COUNT, words - 3);
+}
+
+static void wide_header(void) {
+  static const int32_t editions[] = {0, 3, 5, -2, INT32_MIN, INT32_MAX};
+  static const int32_t no_zeros[] = {1, -1, INT32_MIN, INT32_MAX};
+  size_t i;
+  for (i = 0; i < sizeof editions / sizeof *editions; i++)
+    call_wide_changed("another edition", HNHO_WORD_EDITION, editions[i], 10, 1, HNHO_NOT_A_JOB, 0);
+  for (i = 1; i < HNHO_WIDE_HEADER_WORDS; i++)
+    call_wide_changed("a header word of -1", i, -1, i, -1, HNHO_HEADER_LIMIT, i);
+  for (i = 0; i < sizeof no_zeros / sizeof *no_zeros; i++) {
+    call_wide_changed("word 10", 10, no_zeros[i], 11, 0, HNHO_HEADER_LIMIT, 10);
+    call_wide_changed("word 11", 10, 0, 11, no_zeros[i], HNHO_HEADER_LIMIT, 11);
+    call_wide_changed("words 10 and 11", 10, no_zeros[i], 11, no_zeros[i], HNHO_HEADER_LIMIT, 10);
+    call_wide_changed("word 11 and a lower one", HNHO_WORD_C, 513, 11, no_zeros[i], HNHO_HEADER_LIMIT, HNHO_WORD_C);
+    call_wide_changed("word 11 and an ordinate", 11, no_zeros[i], WIDE_LINE_AT, 5001, HNHO_HEADER_LIMIT, 11);
+  }
+}
+
+/* 6 at the low half of a value past its limits, whatever its halves are, and at a mark that is none; the lower of two. */
+static void wide_effect_limits(void) {
+  static const int64_t past[] = {WIDE_MOST + 1, -WIDE_MOST - 1, INT64_MIN, INT64_MAX};
+  static const int32_t high[] = {23284, -23285, INT32_MIN, INT32_MAX};
+  static const int32_t low[] = {0, 1, -1, INT32_MIN, INT32_MAX};
+  static const int32_t marks[] = {0, 3, -1, INT32_MIN, INT32_MAX};
+  const size_t first = WIDE_EFFECTS_AT, second = WIDE_EFFECTS_AT + 3;
+  size_t effect, i, j;
+  for (effect = 0; effect < 2; effect++) {
+    size_t at = effect == 0 ? first : second;
+    for (i = 0; i < sizeof past / sizeof *past; i++) {
+      int64_t before = wide_value[effect];
+      wide_value[effect] = past[i];
+      call_wide("a value past its limits", HNHO_TABLE_LIMIT, at);
+      call_wide_changed("a value and its mark", at + 2, 0, at + 2, 0, HNHO_TABLE_LIMIT, at);
+      wide_value[effect] = before;
+    }
+    for (i = 0; i < sizeof high / sizeof *high; i++)
+      for (j = 0; j < sizeof low / sizeof *low; j++)
+        call_wide_changed("a high half past its limits", at, low[j], at + 1, high[i], HNHO_TABLE_LIMIT, at);
+    for (i = 0; i < sizeof marks / sizeof *marks; i++)
+      call_wide_changed("a mark that is none", at + 2, marks[i], at + 2, marks[i], HNHO_TABLE_LIMIT, at + 2);
+  }
+  call_wide_changed("a mark and the next value", first + 2, 3, second + 1, 23284, HNHO_TABLE_LIMIT, first + 2);
+  call_wide_changed("a value and a row", second + 1, 23284, second + 3, 3, HNHO_TABLE_LIMIT, second);
+  call_wide_changed("a value and an ordinate", first + 1, 23284, WIDE_LINE_AT, 5001, HNHO_ORDINATE_LIMIT, WIDE_LINE_AT);
+  call_wide_changed("a value and a piece", first + 1, 23284, WIDE_LINE_AT + 1, -1, HNHO_PIECE_CROSSES, WIDE_LINE_AT);
+}
+
+static void wide_jobs(void) {
+  expect_accepted = expect_wide_job;
+  wide_values();
+  wide_rows();
+  wide_effects = 2;
+  wide_mark = 2;
+  wide_factor = 1350;
+  wide_value[0] = INT64_C(4294967301);
+  wide_value[1] = -7;
+  wide_lengths();
+  wide_header();
+  wide_effect_limits();
+  expect_accepted = expect_job_a;
+}
+
+/* The bytes of values of two words, on a buffer of their length and at its second and third word. */
+static void wide_writer(void) {
+  static const struct {
+    int64_t value;
+    uint8_t bytes[8];
+  } due[] = {
+    {0, {0, 0, 0, 0, 0, 0, 0, 0}},
+    {1, {1, 0, 0, 0, 0, 0, 0, 0}},
+    {-1, {0xff, 0xff, 0xff, 0xff, 0xff, 0xff, 0xff, 0xff}},
+    {INT64_C(2147483648), {0, 0, 0, 0x80, 0, 0, 0, 0}},
+    {INT64_C(4294967295), {0xff, 0xff, 0xff, 0xff, 0, 0, 0, 0}},
+    {INT64_C(4294967296), {0, 0, 0, 0, 1, 0, 0, 0}},
+    {INT64_C(-4294967296), {0, 0, 0, 0, 0xff, 0xff, 0xff, 0xff}},
+    {WIDE_MOST, {0, 0x40, 0x7a, 0x10, 0xf3, 0x5a, 0, 0}}, /* 23283 is 0x5af3, 276447232 is 0x107a4000 */
+    {-WIDE_MOST, {0, 0xc0, 0x85, 0xef, 0x0c, 0xa5, 0xff, 0xff}},
+    {INT64_C(0x0807060504030201), {1, 2, 3, 4, 5, 6, 7, 8}},
+    {INT64_MAX, {0xff, 0xff, 0xff, 0xff, 0xff, 0xff, 0xff, 0x7f}},
+    {INT64_MIN, {0, 0, 0, 0, 0, 0, 0, 0x80}}
+  };
+  size_t i;
+  step = "hnho_put_wide";
+  for (i = 0; i < sizeof due / sizeof *due; i++) {
+    struct buffer alone = lend(8, 0x3c), within = lend(16, 0x3c);
+    hnho_put_wide(alone.bytes, 0, due[i].value);
+    expect(memcmp(alone.bytes, due[i].bytes, 8) == 0, "the bytes");
+    hnho_put_wide(within.bytes, 1, due[i].value);
+    expect(memcmp(within.bytes + 4, due[i].bytes, 8) == 0, "the place");
+    expect(all_are(within.bytes, 0, 4, 0x3c) && all_are(within.bytes, 12, 16, 0x3c), "a word beside it changed");
+    take_back(alone, "a byte beside the value changed");
+    take_back(within, "a byte beside the words changed");
+  }
 }
 
 /* The header's reader against numbers of both signs. */
@@ -504,6 +751,7 @@ int main(int argc, char **argv) {
   read_job_a(argv[1]);
   layout();
   number_reader();
+  wide_writer();
   account_reader();
   refusal_texts();
   null_pointers();
@@ -513,6 +761,7 @@ int main(int argc, char **argv) {
   refusals();
   wide_ordinates();
   farm_jobs();
+  wide_jobs();
   printf("host_edges: %d calls answered as due\n", calls);
   return 0;
 }

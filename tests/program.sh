@@ -63,6 +63,14 @@ ultimate greatest 69708554839 row 11 least 11587500000 row 16
 run 'the farm job' "$farm_text" '' <examples/farm-job.bin
 run "the farm job's first ten words" $'refused 1 at 0\n' '' < <(head -c 40 examples/farm-job.bin)
 run "the farm job's header" $'refused 3 at 62\n' '' < <(head -c 44 examples/farm-job.bin)
+arch_text='normal greatest 207820515 least -128233892
+overload greatest 323215971 least -175273014
+service greatest 2749692386250 row 1 least -2503981063200 row 1
+ultimate greatest 7414923629640 row 2 least -2330865309000 row 3
+'
+run 'the arch job' "$arch_text" '' <examples/arch-job.bin
+run "the arch job's first eleven words" $'refused 1 at 0\n' '' < <(head -c 44 examples/arch-job.bin)
+run "the arch job's header" $'refused 3 at 113\n' '' < <(head -c 48 examples/arch-job.bin)
 run 'empty input' $'refused 1 at 0\n' '' </dev/null
 run 'input of 20000 bytes' $'refused 3 at 85\n' '' < <(cat "$job"; head -c 19660 /dev/zero)
 run 'a directory as input' '' $'standard input: Is a directory\n' </

@@ -26,7 +26,7 @@ fn kernel_and_second_implementation_agree_on_chosen_cases() {
 fn usual_count(edition: Edition) -> u64 {
     match edition {
         Edition::One => 100_000,
-        Edition::Four => 20_000,
+        Edition::Two | Edition::Four => 20_000,
     }
 }
 

@@ -2,6 +2,7 @@
 //! such words as is due by the papers and by the second implementation.
 
 use random::{judged, trains};
+use second::arch_job::arch_job;
 use second::farm_job::farm_job;
 use second::job::{Job, Piece};
 use second::job_a::job_a;
@@ -46,8 +47,8 @@ fn line(pieces: i64) -> Vec<Piece> {
     (0..pieces).map(piece).collect()
 }
 
-/// Job A, and Job A with one piece, with the longest line, with five lanes and the most transverse ordinates; a farm job.
-fn jobs() -> [(&'static str, Job); 5] {
+/// Job A, and Job A with one piece, with the longest line, with five lanes and the most transverse ordinates; a farm job; an arch.
+fn jobs() -> [(&'static str, Job); 6] {
     let mut one_piece = job_a();
     (one_piece.piece_length, one_piece.pieces) = (50, line(1));
     let mut longest_line = job_a();
@@ -61,6 +62,7 @@ fn jobs() -> [(&'static str, Job); 5] {
         ("the longest line", longest_line),
         ("five lanes", five_lanes),
         ("the farm job", farm_job()),
+        ("the arch job", arch_job()),
     ]
 }
 

@@ -90,6 +90,11 @@ fn main() {
             second::farm_job::farm_job().bytes(),
             20_000,
         ),
+        (
+            "arch (the example, N 20)",
+            second::arch_job::arch_job().bytes(),
+            20_000,
+        ),
         ("N 250, full tables", full(250), 1_000),
         ("N 500, full tables", full(500), 1_000),
         ("largest (N 1000, full tables)", full(1000), 1_000),
