@@ -1,5 +1,5 @@
 /* Packs a job of edition 2, in C99 or C++, and writes it to standard output: the moment at the crown of a two-hinged arch of 100 m, in
- * cm, of one of two ribs, with effects in N.cm that no word holds.
+ * cm, of one of two ribs, with dead load effects past the 1000000000 kN.cm that edition 1 holds.
  *
  *   arch >JOB
  *
@@ -35,10 +35,10 @@ static void put_effect(int64_t value, int32_t mark) {
 
 /* Twelve words: h 50 dm, g 50 cm, W 900 cm, dynamic kind 1 with its factor in thousandths; the last two are 0. */
 static void put_header(void) {
-  static const int32_t header[HNHO_WIDE_HEADER_WORDS] = {
-    HNHO_EDITION_WIDE, 50, PIECES, 50, 900, 1, 1109, EFFECTS, ROWS, RECORDS, 0, 0
+  static const int32_t header[HNHO_NEWTONS_HEADER_WORDS] = {
+    HNHO_EDITION_NEWTONS, 50, PIECES, 50, 900, 1, 1109, EFFECTS, ROWS, RECORDS, 0, 0
   };
-  put(header, HNHO_WIDE_HEADER_WORDS);
+  put(header, HNHO_NEWTONS_HEADER_WORDS);
 }
 
 /* The influence line, from a springing to the crown and down again, a left and a right ordinate a piece. */
@@ -62,8 +62,8 @@ static void put_transverse(void) {
 
 /* The effects: the dead load as on a simple span and its thrust's relief, always present; the arch's shortening, and braking. */
 static void put_effects(void) {
-  put_effect(INT64_C(123456789012), 1);
-  put_effect(INT64_C(-120987654321), 1);
+  put_effect(INT64_C(1234567890123), 1);
+  put_effect(INT64_C(-1232098755432), 1);
   put_effect(INT64_C(-4800000000), 2);
   put_effect(INT64_C(3000000000), 2);
 }

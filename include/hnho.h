@@ -36,7 +36,7 @@ uint32_t hnho_layout(void);
 
 /* Solves a job.
  *
- * job, job_bytes: the job, signed 32-bit words, little-endian. Only read.
+ * job, job_bytes: the job, 32-bit words, little-endian, signed but for the low halves of edition 2's values. Only read.
  *
  * patch, patch_bytes: a byte a piece of the influence line, so N or more; longer is fine. On acceptance byte i, from 0, gets
  * HNHO_PATCH_RAISING where piece i's ordinates add up to more than 0, HNHO_PATCH_LOWERING where to less, HNHO_PATCH_NEITHER
@@ -116,7 +116,7 @@ enum hnho_refusal_number {
 /* The edition of a job. */
 enum hnho_edition {
   HNHO_EDITION_HIGHWAY = 1,
-  HNHO_EDITION_WIDE = 2,  /* a highway bridge's, with effects past a word */
+  HNHO_EDITION_NEWTONS = 2,  /* a highway bridge's, with effects in N.U: past 1000000000 kN.U, or not of whole kN.U */
   HNHO_EDITION_RURAL = 4
 };
 
@@ -129,7 +129,7 @@ enum hnho_barriers {
 
 /* The words of a job, by place.
  *
- *   0  edition: 1, 2 for effects past a word, or 4 for a farm bridge
+ *   0  edition: 1, 2 for effects in N.U, or 4 for a farm bridge
  *   1  h, piece length in dm: 1, 2, 5, 10, 25 or 50
  *   2  N, pieces: 1 to 1000, N times h at most 1000
  *   3  g, spacing of the transverse ordinates in cm: 10 to 50
@@ -140,7 +140,7 @@ enum hnho_barriers {
  *   8  R, rows: 1 to 32; 0 in edition 4
  *   9  C, chain records: 0 to 512; 0 in edition 4
  *  10  edition 4: of enum hnho_barriers. W is then the clear width and within the barriers' band, else refusal 11
- *  10, 11  edition 2: 0 and 0
+ *  10, 11  edition 2: reserved, 0
  *
  * After the header, from word 10 on, in edition 4 from word 11 on, in edition 2 from word 12 on, one section after the other:
  *   2 N    ordinates of the influence line, a left and a right one a piece: -5000 to 5000, in a unit U of the sender's
@@ -170,7 +170,7 @@ enum hnho_word_place {
   HNHO_WORD_C = 9,
   HNHO_WORD_BARRIERS = 10,     /* in edition 4 */
   HNHO_HEADER_WORDS = 10,      /* of edition 1 */
-  HNHO_WIDE_HEADER_WORDS = 12,  /* of edition 2 */
+  HNHO_NEWTONS_HEADER_WORDS = 12,  /* of edition 2 */
   HNHO_RURAL_HEADER_WORDS = 11  /* of edition 4 */
 };
 
@@ -207,10 +207,10 @@ struct hnho_placement {
 
 /* The row that governs a question of a limit state. */
 struct hnho_governing {
-  int64_t value;     /* in thousandths of N.U */
+  int64_t value;     /* in thousandths of N.U, less than 4.81e18 away from 0; two jobs' values may differ by more than 64 bits hold */
   int64_t row;       /* from 1; the lowest at a tie */
   int64_t left_out;  /* a bit an effect, effect 1 the lowest; 1 where the effect is left out */
-  int64_t unladen;   /* 1 where the traffic is left out, else 0 */
+  int64_t unladen;   /* 1 where the traffic is left out, else 0, as for a row without traffic */
   int64_t k;         /* of row 16 of a farm job, its factor of DL in thousandths: 1300 or 800, either where both give it; else 0 */
 };
 
@@ -363,7 +363,8 @@ static inline const char *hnho_refusal_text(int number) {
   case HNHO_PIECE_CROSSES:
     return "a piece with one ordinate above 0 and one below; mended by whoever works out the lines";
   case HNHO_TABLE_LIMIT:
-    return "a word of an effect, a row or a record outside its limits; mended by whoever keeps the factors";
+    return "a word of an effect, a row or a record, or an effect's value of two words, outside its limits; mended by whoever keeps "
+           "the factors";
   case HNHO_CHAIN_RETURNS:
     return "a row's chain comes back to a record; mended by whoever keeps the factors";
   case HNHO_EFFECT_TWICE:

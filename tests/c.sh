@@ -116,8 +116,8 @@ step 'an arch job with a 1 in word 11' fails 1 "refused 2 at 11: a header word o
 (at place 0 a short account or report buffer, or h, N, the section's length or the mode of a train's call outside its limits; mended \
 by the host)" target/c/host target/c/word-11.bin
 { head -c 288 examples/arch-job.bin; printf '\0\0\0\1'; tail -c +293 examples/arch-job.bin; } >target/c/far.bin
-step 'an effect of an arch job past its limits' fails 1 "refused 6 at 71: a word of an effect, a row or a record outside its limits; \
-mended by whoever keeps the factors" target/c/host target/c/far.bin
+step 'an effect of an arch job past its limits' fails 1 "refused 6 at 71: a word of an effect, a row or a record, or an effect's \
+value of two words, outside its limits; mended by whoever keeps the factors" target/c/host target/c/far.bin
 
 # the farm job with W 369, too narrow for traffic barriers
 { head -c 16 examples/farm-job.bin; printf '\161\1\0\0'; tail -c +21 examples/farm-job.bin; } >target/c/narrow.bin
@@ -161,6 +161,7 @@ away=$(mktemp -d) || exit 2
 trap 'rm -rf "$away"' EXIT
 step 'an installation' install_in "$away" first
 step 'moving the installation' mv "$away/first" "$away/moved"
+step 'the release that HOST.md names' env PKG_CONFIG_PATH="$away/moved/lib/pkgconfig" pkg-config --atleast-version=1.2 hnho
 step 'a copy of the examples' cp examples/host.c examples/truck.c examples/arch.c "$away"
 for compiler in 'gcc -std=c99' 'g++ -x c++ -std=c++98' 'g++ -x c++ -std=c++20'; do
   for example in host truck; do

@@ -307,7 +307,7 @@ static void patch_lengths(void) {
 static void refusals(void) {
   size_t word;
   call_changed("edition 3", HNHO_WORD_EDITION, 3, HNHO_NOT_A_JOB, 0);
-  call_changed("Job A as edition 2, 50 in word 11", HNHO_WORD_EDITION, HNHO_EDITION_WIDE, HNHO_HEADER_LIMIT, 11);
+  call_changed("Job A as edition 2, 50 in word 11", HNHO_WORD_EDITION, HNHO_EDITION_NEWTONS, HNHO_HEADER_LIMIT, 11);
   call_changed("Job A as edition 4", HNHO_WORD_EDITION, HNHO_EDITION_RURAL, HNHO_HEADER_LIMIT, HNHO_WORD_E);
   for (word = 1; word < HNHO_HEADER_WORDS; word++)
     call_changed("a header word of -1", word, -1, HNHO_HEADER_LIMIT, word);
@@ -424,7 +424,7 @@ static void farm_refusals(void) {
   for (i = 0; i < sizeof editions / sizeof *editions; i++)
     call_farm_changed("another edition", HNHO_WORD_EDITION, editions[i], HNHO_NOT_A_JOB, 0);
   call_farm_changed("the farm job as edition 1", HNHO_WORD_EDITION, HNHO_EDITION_HIGHWAY, HNHO_HEADER_LIMIT, HNHO_WORD_R);
-  call_farm_changed("the farm job as edition 2", HNHO_WORD_EDITION, HNHO_EDITION_WIDE, HNHO_HEADER_LIMIT, HNHO_WORD_R);
+  call_farm_changed("the farm job as edition 2", HNHO_WORD_EDITION, HNHO_EDITION_NEWTONS, HNHO_HEADER_LIMIT, HNHO_WORD_R);
   for (i = 1; i < HNHO_RURAL_HEADER_WORDS; i++)
     call_farm_changed("a header word of -1", i, -1, HNHO_HEADER_LIMIT, i);
   call_farm_changed("ten effects", HNHO_WORD_E, 10, HNHO_HEADER_LIMIT, HNHO_WORD_E);
@@ -458,11 +458,11 @@ static void farm_jobs(void) {
 
 /* Packs the job of edition 2; its words. */
 static size_t pack_wide(uint8_t *job) {
-  const int32_t header[HNHO_WIDE_HEADER_WORDS] = {HNHO_EDITION_WIDE, 50, 1, 50, 300, 2, 0, wide_effects, 2, wide_effects, 0, 0};
+  const int32_t header[HNHO_NEWTONS_HEADER_WORDS] = {HNHO_EDITION_NEWTONS, 50, 1, 50, 300, 2, 0, wide_effects, 2, wide_effects, 0, 0};
   const int32_t rows[] = {1, 0, 0, wide_effects > 0, 2, 2, 3000, wide_effects > 0};
   size_t words = 0, i;
   int32_t effect;
-  for (i = 0; i < HNHO_WIDE_HEADER_WORDS; i++)
+  for (i = 0; i < HNHO_NEWTONS_HEADER_WORDS; i++)
     hnho_put_word(job, words++, header[i]);
   for (i = 0; i < 2; i++)
     hnho_put_word(job, words++, 8);
@@ -539,7 +539,7 @@ static void wide_lengths(void) {
   step = "the front of a job of edition 2";
   expect(words == WIDE_EFFECTS_AT + 3 * 2 + 2 * 4 + 3 * 2, "its words");
   for (n = 0; n < 4 * words; n++)
-    if (n < 4 * HNHO_WIDE_HEADER_WORDS || n % 4 != 0)
+    if (n < 4 * HNHO_NEWTONS_HEADER_WORDS || n % 4 != 0)
       call(job, n, 1, HNHO_ACCOUNT_BYTES, 0, HNHO_NOT_A_JOB, 0);
     else
       call(job, n, 1, HNHO_ACCOUNT_BYTES, 0, HNHO_WORD_COUNT, words);
@@ -562,7 +562,7 @@ static void wide_header(void) {
   size_t i;
   for (i = 0; i < sizeof editions / sizeof *editions; i++)
     call_wide_changed("another edition", HNHO_WORD_EDITION, editions[i], 10, 1, HNHO_NOT_A_JOB, 0);
-  for (i = 1; i < HNHO_WIDE_HEADER_WORDS; i++)
+  for (i = 1; i < HNHO_NEWTONS_HEADER_WORDS; i++)
     call_wide_changed("a header word of -1", i, -1, i, -1, HNHO_HEADER_LIMIT, i);
   for (i = 0; i < sizeof no_zeros / sizeof *no_zeros; i++) {
     call_wide_changed("word 10", 10, no_zeros[i], 11, 0, HNHO_HEADER_LIMIT, 10);
@@ -602,6 +602,20 @@ static void wide_effect_limits(void) {
   call_wide_changed("a value and a piece", first + 1, 23284, WIDE_LINE_AT + 1, -1, HNHO_PIECE_CROSSES, WIDE_LINE_AT);
 }
 
+/* 4 at a transverse ordinate; 6, 7 and 8 at the rows and records, which follow effects of three words. */
+static void wide_table_limits(void) {
+  const size_t row = WIDE_EFFECTS_AT + 2 * 3, record = row + 2 * 4;
+  const size_t words[] = {row, row + 1, row + 2, row + 3, row + 7, record, record + 1, record + 2, record + 5};
+  size_t i;
+  call_wide_changed("a transverse ordinate", WIDE_EFFECTS_AT - 1, 1001, WIDE_EFFECTS_AT - 1, 1001, HNHO_ORDINATE_LIMIT,
+                    WIDE_EFFECTS_AT - 1);
+  for (i = 0; i < sizeof words / sizeof *words; i++)
+    call_wide_changed("a word of the table", words[i], 3001, words[i], 3001, HNHO_TABLE_LIMIT, words[i]);
+  call_wide_changed("a chain that comes back", record + 5, 1, record + 5, 1, HNHO_CHAIN_RETURNS, row);
+  call_wide_changed("an effect twice", record + 3, 1, record + 3, 1, HNHO_EFFECT_TWICE, row);
+  call_wide_changed("an effect twice, past row 1", record + 3, 1, row + 3, 0, HNHO_EFFECT_TWICE, row + 4);
+}
+
 static void wide_jobs(void) {
   expect_accepted = expect_wide_job;
   wide_values();
@@ -614,6 +628,7 @@ static void wide_jobs(void) {
   wide_lengths();
   wide_header();
   wide_effect_limits();
+  wide_table_limits();
   expect_accepted = expect_job_a;
 }
 
@@ -730,6 +745,7 @@ static void refusal_texts(void) {
       expect(strcmp(text, hnho_refusal_text(j)) != 0, "is another number's");
   }
   expect(strstr(hnho_refusal_text(HNHO_HEADER_LIMIT), host) != NULL, "does not tell of a short buffer");
+  expect(strstr(hnho_refusal_text(HNHO_NOT_A_JOB), "in edition 4 under 11, in edition 2 under 12") != NULL, "does not tell of headers");
   for (i = -1; i < 256; i += i < 0 ? texts + 1 : 1)
     expect(strcmp(hnho_refusal_text(i), hnho_refusal_text(texts - 1)) == 0, "is of no refusal");
 }

@@ -3,12 +3,15 @@
  *   stored_calls JOBS
  *
  * JOBS is crates/replay/data/jobs; second/README.md has its format. Each buffer is of exactly the length that goes with its case.
+ * The longest of the jobs that are accepted has HNHO_MOST_JOB_BYTES.
  */
 #include <inttypes.h>
 #include <stdio.h>
 #include <stdlib.h>
 
 #include "hnho.h"
+
+static size_t longest; /* job that was accepted, in bytes */
 
 static void fail(const char *what) {
   fprintf(stderr, "stored_calls: FAILED: %s\n", what);
@@ -69,6 +72,8 @@ static int answer(FILE *file) {
   if (account == NULL)
     fail("no memory");
   result = hnho_solve(job, job_bytes, patch, patch_bytes, account, HNHO_ACCOUNT_BYTES);
+  if (result == 0 && job_bytes > longest)
+    longest = job_bytes;
   if (result == 0)
     print_account(account);
   else
@@ -89,5 +94,7 @@ int main(int argc, char **argv) {
   while (answer(file)) {
   }
   fclose(file);
+  if (longest != HNHO_MOST_JOB_BYTES)
+    fail("the longest job that was accepted has other than HNHO_MOST_JOB_BYTES bytes");
   return 0;
 }

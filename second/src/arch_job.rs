@@ -11,8 +11,8 @@ const HALF_LINE: [i64; 11] = [0, -61, -113, -148, -160, -142, -88, 0, 140, 320, 
 
 /// The moment at the crown of a two-hinged arch of 100 m, in cm, of one of two
 /// ribs; a carriageway of 9 m. The effects, in N·cm: the dead load as on a simple
-/// span and its thrust's relief, both far past a word; the arch's shortening, and
-/// braking.
+/// span and its thrust's relief, both past edition 1's limits; the arch's
+/// shortening, and braking.
 pub fn arch_job() -> Job {
     let rising = HALF_LINE.windows(2).map(|ordinates| Piece {
         left: ordinates[0],
@@ -33,8 +33,8 @@ pub fn arch_job() -> Job {
         pieces: rising.chain(falling).collect(),
         transverse: (0..=18).map(|number| 950 - 50 * number).collect(),
         effects: vec![
-            Effect::new(123_456_789_012, ALWAYS_PRESENT),
-            Effect::new(-120_987_654_321, ALWAYS_PRESENT),
+            Effect::new(1_234_567_890_123, ALWAYS_PRESENT),
+            Effect::new(-1_232_098_755_432, ALWAYS_PRESENT),
             Effect::new(-4_800_000_000, MAY_BE_LEFT_OUT),
             Effect::new(3_000_000_000, MAY_BE_LEFT_OUT),
         ],

@@ -261,7 +261,7 @@ fn the_arch_job() {
     assert_eq!(account.overload_greatest.value, overload);
     assert_eq!(account.overload_least.value, overload_least);
 
-    // The dead load less its relief: 123456789012 - 120987654321.
+    // The dead load less its relief: 1234567890123 - 1232098755432.
     let dead = 2_469_134_691;
     let (service, ultimate) = (account.service, account.ultimate);
     assert_eq!(service.greatest.value, 1000 * dead + 1350 * normal);

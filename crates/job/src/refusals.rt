@@ -44,8 +44,8 @@ fn has_edition(s: &[u8]) -> bool
     if edition == model::RURAL_EDITION {
         return 4 * model::RURAL_HEADER_WORDS <= s.len();
     }
-    if edition == model::WIDE_EDITION {
-        return 4 * model::WIDE_HEADER_WORDS <= s.len();
+    if edition == model::SECOND_EDITION {
+        return 4 * model::SECOND_HEADER_WORDS <= s.len();
     }
     if edition == model::FIRST_EDITION {
         return true;

@@ -122,7 +122,7 @@ fn listed_counts(s: &[u8], later: Fault) -> Fault
 }
 
 // Edition 2's words from 7 on: E, R, C, and two that are 0.
-fn wide_counts(s: &[u8]) -> Fault
+fn second_counts(s: &[u8]) -> Fault
     requires { ⌜ 48 ≤ length (now s) ⌝ }
     ensures { λ r. ⌜ placeOf r ≡ misfitFrom 7 (tableCounts Second) (itemFrom (now (s .entry)) 0 0) ⌝ }
 {
@@ -149,7 +149,7 @@ fn counts_misfit(s: &[u8], head: Header) -> Fault
     let edition = head.edition;
     match edition {
         Edition::First => listed_counts(s, Fault::Clear),
-        Edition::Second => wide_counts(s),
+        Edition::Second => second_counts(s),
         Edition::Fourth => rural_counts(s),
     }
 }
@@ -257,7 +257,7 @@ fn newton_effect_misfit(s: &[u8], head: Header, i: usize) -> Fault
     requires { ⌜ 4 * (effectSize newtons * i + effectSize newtons) ≤ length (now s) ⌝ }
     ensures { λ r. ⌜ placeOf r ≡ misfitFrom 0 (effectFields newtons (profileOf (head .edition))) (itemFrom (now (s .entry)) (effectSize newtons * i) i) ⌝ }
 {
-    let p = model::WIDE_EFFECT_WORDS * i;
+    let p = model::NEWTON_EFFECT_WORDS * i;
     let mark = field(2, mark_fits(s, head, i, p + 2), Fault::Clear);
     field(0, newton_value_fits(s, p), mark)
 }

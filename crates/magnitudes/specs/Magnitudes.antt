@@ -72,7 +72,7 @@ trafficMost = 1000000000000
 
 -- ---- rows
 
--- an effect's value in N·U: refusal 6; a value in kN·U is at most a hundredth of it
+-- an effect's value in N·U: refusal 6; the 1e9 kN·U of one in that unit are a hundredth of it
 abbrev pub effectMost : ℕ
 effectMost = 100000000000000
 

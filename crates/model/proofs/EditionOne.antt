@@ -34,7 +34,7 @@ module _ (b : List ℕ) (not-2 : is 2 (wordAt b 0) ≡ false) (not-4 : is 4 (wor
   pub first-effects : format (headerOf b) Effects ≡ (headerOf b .effects of within 1000000000 ∷ range 1 2 ∷ [])
   first-effects = rw is-first refl
 
-  -- 11: no width but by its header's limits
+  -- 11: never, for a highway's width has no band
   pub first-width : fault11 b ≡ none
   unfolding fault11 misfit
   first-width = rw is-first refl

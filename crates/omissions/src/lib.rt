@@ -50,7 +50,7 @@ fn in_newtons(effects: &[u8], e: usize) -> Stated
     requires { ⌜ (1 ≤ e) × (effectBytes newtons * e ≤ length (now effects)) ⌝ }
     ensures { λ r. ⌜ StatedRight (effectAt newtons (now (effects .entry)) e) r ⌝ }
 {
-    let p = model::WIDE_EFFECT_WORDS * (e - 1);
+    let p = model::NEWTON_EFFECT_WORDS * (e - 1);
     Stated {
         number: words::wide(effects, p),
         unit: 1,

@@ -17,7 +17,7 @@ fn edition(s: &[u8]) -> Edition
     if number == model::RURAL_EDITION {
         return Edition::Fourth;
     }
-    if number == model::WIDE_EDITION {
+    if number == model::SECOND_EDITION {
         return Edition::Second;
     }
     Edition::First
@@ -49,7 +49,7 @@ pub fn size(head: Header) -> usize
     let edition = head.edition;
     match edition {
         Edition::First => model::HEADER_WORDS,
-        Edition::Second => model::WIDE_HEADER_WORDS,
+        Edition::Second => model::SECOND_HEADER_WORDS,
         Edition::Fourth => model::RURAL_HEADER_WORDS,
     }
 }

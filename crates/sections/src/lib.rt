@@ -17,7 +17,7 @@ fn effect_words(head: Header) -> usize
     let edition = head.edition;
     match edition {
         Edition::First | Edition::Fourth => model::EFFECT_WORDS,
-        Edition::Second => model::WIDE_EFFECT_WORDS,
+        Edition::Second => model::NEWTON_EFFECT_WORDS,
     }
 }
 

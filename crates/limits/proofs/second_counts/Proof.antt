@@ -2,8 +2,8 @@ use mathlib.Core.Path.{refl}
 use mathlib.Core.List.{[], _∷_}
 use borrow.Author.Needs.{needs}
 use Rattle.words.specs.Fields.{range}
-use Rattle.limits.proofs.wide_counts.Statement.{statement}
-use Rattle.limits.proofs.wide_counts.Tie as tie
+use Rattle.limits.proofs.second_counts.Statement.{statement}
+use Rattle.limits.proofs.second_counts.Tie as tie
 
 returns : tie.Need-returns
 returns c =
@@ -16,5 +16,5 @@ returns c =
     )
     refl)
 
-pub wide-counts-spec : {M : Type 1} → statement M
-wide-counts-spec = tie.close (tie.spec (λ c κs. search needs) (λ c κs. search needs) (λ c κs. search needs) (λ c κs. search needs) (λ c κs. search needs) returns)
+pub second-counts-spec : {M : Type 1} → statement M
+second-counts-spec = tie.close (tie.spec (λ c κs. search needs) (λ c κs. search needs) (λ c κs. search needs) (λ c κs. search needs) (λ c κs. search needs) returns)
