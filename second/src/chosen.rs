@@ -15,6 +15,7 @@ use crate::sections::{
     DYNAMIC_KIND, DYNAMIC_VALUE, EFFECTS, PIECES, PIECE_LENGTH, RECORDS, ROWS, WIDTH,
 };
 use crate::words::{bytes_of, changed, words_of, Change};
+use std::ops::RangeInclusive;
 
 const BUILDERS: [fn() -> Case; 8] = [
     most_words,
@@ -195,10 +196,60 @@ fn small_traffic(spacing: i64, transverse: Vec<i64>, dynamic_value: i64) -> Case
 fn job_a_with(change: impl FnOnce(&mut Job)) -> Case {
     let mut job = job_a();
     change(&mut job);
+    of_job(&job)
+}
+
+/// The job with a patch buffer of a byte a piece.
+fn of_job(job: &Job) -> Case {
     Case {
         job: job.bytes(),
         patch: vec![0xA5; job.pieces.len()],
     }
+}
+
+/// The job with words changed and a patch buffer of so many bytes.
+fn changed_job(job: &Job, changes: &[Change], patch_bytes: usize) -> Case {
+    Case {
+        job: bytes_of(&changed(&job.words(), changes)),
+        patch: vec![0xA5; patch_bytes],
+    }
+}
+
+/// The front of the job, in each of these lengths in bytes.
+fn fronts(job: &Job, lengths: RangeInclusive<usize>) -> impl Iterator<Item = Case> {
+    let whole = of_job(job);
+    lengths.map(move |length| {
+        let mut case = whole.clone();
+        case.job.truncate(length);
+        case
+    })
+}
+
+/// One piece of 5 m under one lane, without effects, rows and records.
+fn bare_job(edition: Edition, further_header: Vec<i64>) -> Job {
+    Job {
+        edition,
+        piece_length: 50,
+        spacing: 50,
+        width: 300,
+        dynamic_kind: 2,
+        dynamic_value: 0,
+        further_header,
+        pieces: vec![Piece { left: 8, right: 8 }],
+        transverse: vec![100, 250, 333, 500, 21, -70, -900],
+        effects: vec![],
+        rows: vec![],
+        records: vec![],
+    }
+}
+
+/// The longest line of the longest pieces, level at this ordinate.
+fn longest_level_line(ordinate: i64) -> Vec<Piece> {
+    let piece = Piece {
+        left: ordinate,
+        right: ordinate,
+    };
+    vec![piece; 20]
 }
 
 /// The case with some of its job's words changed.

@@ -2,6 +2,7 @@
 //! past it, alone and with other faults beside it; the largest rows and the most
 //! words.
 
+use super::{bare_job, changed_job, fronts, longest_level_line, of_job};
 use crate::edition::Edition;
 use crate::generator::Case;
 use crate::job::{
@@ -9,7 +10,7 @@ use crate::job::{
     MAY_BE_LEFT_OUT, SERVICE, ULTIMATE,
 };
 use crate::sections::{DYNAMIC_VALUE, EDITION, EFFECTS, PIECES, PIECE_LENGTH, RECORDS, ROWS};
-use crate::words::{bytes_of, changed, halves, Change, WORD_BYTES};
+use crate::words::{halves, Change, WORD_BYTES};
 
 /// Places in the short job.
 const WORD_10: usize = 10;
@@ -152,17 +153,7 @@ pub(super) fn cases() -> Vec<Case> {
 
 /// One piece, W 300, two effects that both of two rows count: 41 words.
 fn short_job() -> Job {
-    let piece = Piece { left: 8, right: 8 };
     Job {
-        edition: Edition::Two,
-        piece_length: 50,
-        spacing: 50,
-        width: 300,
-        dynamic_kind: 2,
-        dynamic_value: 0,
-        further_header: vec![0, 0],
-        pieces: vec![piece],
-        transverse: vec![100, 250, 333, 500, 21, -70, -900],
         effects: vec![
             Effect::new(5_000_000_000, ALWAYS_PRESENT),
             Effect::new(-7_000_000_000, MAY_BE_LEFT_OUT),
@@ -172,22 +163,13 @@ fn short_job() -> Job {
             Row::new(ULTIMATE, LIVE_OVERLOAD, 1500, 1),
         ],
         records: vec![Record::new(1, 1000, 2), Record::new(2, 1200, 0)],
+        ..bare_job(Edition::Two, vec![0, 0])
     }
 }
 
 /// The short job's words changed, with a patch buffer of so many bytes.
 fn with(changes: &[Change], patch_bytes: usize) -> Case {
-    Case {
-        job: bytes_of(&changed(&short_job().words(), changes)),
-        patch: vec![0xA5; patch_bytes],
-    }
-}
-
-fn of_job(job: &Job) -> Case {
-    Case {
-        job: job.bytes(),
-        patch: vec![0xA5; job.pieces.len()],
-    }
+    changed_job(&short_job(), changes, patch_bytes)
 }
 
 /// Each value as the effect that is always present and as the other.
@@ -254,14 +236,10 @@ fn table_faults() -> Vec<Case> {
 /// word more.
 fn editions_and_lengths() -> Vec<Case> {
     let editions = OTHER_EDITIONS.map(|edition| with(&[(EDITION, edition)], 1));
-    let front = |bytes: usize| {
-        let mut case = with(&[], 1);
-        case.job.truncate(bytes);
-        case
-    };
     let header = Edition::Two.header_words() * WORD_BYTES;
-    let fronts = Edition::One.header_words() * WORD_BYTES..=header + WORD_BYTES;
-    editions.into_iter().chain(fronts.map(front)).collect()
+    let lengths = Edition::One.header_words() * WORD_BYTES..=header + WORD_BYTES;
+    let fronts = fronts(&short_job(), lengths);
+    editions.into_iter().chain(fronts).collect()
 }
 
 /// Rows of all sixteen effects at a limit and at the largest factor, with the
@@ -280,12 +258,7 @@ fn largest_rows() -> Vec<Case> {
                 let mut job = sixteen_in_a_row();
                 let value = |at| Effect::new(MOST * side * sign(at), mark);
                 job.effects = (0..16).map(value).collect();
-                let ordinate = 5000 * side;
-                let piece = Piece {
-                    left: ordinate,
-                    right: ordinate,
-                };
-                job.pieces = vec![piece; 20];
+                job.pieces = longest_level_line(5000 * side);
                 cases.push(of_job(&job));
             }
         }

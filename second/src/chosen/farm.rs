@@ -1,12 +1,13 @@
 //! Cases of edition 4 chosen by hand: a short farm job at each limit of its own
 //! and past it, alone and with other faults beside it.
 
+use super::{bare_job, changed_job, fronts, longest_level_line, of_job};
 use crate::edition::Edition;
 use crate::farm;
 use crate::generator::Case;
-use crate::job::{Effect, Job, Piece};
+use crate::job::{Effect, Job};
 use crate::sections::{BARRIERS, DYNAMIC_VALUE, EDITION, EFFECTS, PIECES, RECORDS, ROWS, WIDTH};
-use crate::words::{bytes_of, changed, Change, WORD_BYTES};
+use crate::words::{Change, WORD_BYTES};
 
 /// Places in the short farm job.
 const LEFT_ORDINATE: usize = 11;
@@ -84,20 +85,9 @@ pub(super) fn cases() -> Vec<Case> {
 /// words.
 fn short_farm_job() -> Job {
     let value = |number: i64| number * number * if number % 2 == 0 { 1000 } else { -700 };
-    let piece = Piece { left: 8, right: 8 };
     Job {
-        edition: Edition::Four,
-        piece_length: 50,
-        spacing: 50,
-        width: 300,
-        dynamic_kind: 2,
-        dynamic_value: 0,
-        further_header: vec![1],
-        pieces: vec![piece],
-        transverse: vec![100, 250, 333, 500, 21, -70, -900],
         effects: effects(value),
-        rows: vec![],
-        records: vec![],
+        ..bare_job(Edition::Four, vec![1])
     }
 }
 
@@ -108,17 +98,7 @@ fn effects(value: impl Fn(i64) -> i64) -> Vec<Effect> {
 
 /// The short farm job's words changed, with a patch buffer of so many bytes.
 fn with(changes: &[Change], patch_bytes: usize) -> Case {
-    Case {
-        job: bytes_of(&changed(&short_farm_job().words(), changes)),
-        patch: vec![0xA5; patch_bytes],
-    }
-}
-
-fn of_job(job: &Job) -> Case {
-    Case {
-        job: job.bytes(),
-        patch: vec![0xA5; job.pieces.len()],
-    }
+    changed_job(&short_farm_job(), changes, patch_bytes)
 }
 
 /// Each width with each barriers, and the transverse ordinates it calls for.
@@ -140,14 +120,9 @@ fn widths() -> Vec<Case> {
 /// Other editions, and the front of the job up to its header and a word more.
 fn editions_and_lengths() -> Vec<Case> {
     let editions = OTHER_EDITIONS.map(|edition| with(&[(EDITION, edition)], 1));
-    let front = |bytes: usize| {
-        let mut case = with(&[], 1);
-        case.job.truncate(bytes);
-        case
-    };
     let header = Edition::Four.header_words() * WORD_BYTES;
-    let fronts = header - WORD_BYTES..=header + WORD_BYTES;
-    editions.into_iter().chain(fronts.map(front)).collect()
+    let fronts = fronts(&short_farm_job(), header - WORD_BYTES..=header + WORD_BYTES);
+    editions.into_iter().chain(fronts).collect()
 }
 
 /// Each effect with the other mark, with marks past both, and with values past
@@ -173,14 +148,9 @@ fn largest() -> Vec<Case> {
     let mut cases = vec![];
     for sign in [1, -1] {
         for changing in [false, true] {
-            let ordinate = 5000 * sign;
-            let piece = Piece {
-                left: ordinate,
-                right: ordinate,
-            };
             let turned = |number: i64| if changing && number % 2 == 1 { -1 } else { 1 };
             let mut job = short_farm_job();
-            job.pieces = vec![piece; 20];
+            job.pieces = longest_level_line(5000 * sign);
             job.transverse = vec![1000; 7];
             (job.dynamic_kind, job.dynamic_value) = (1, 1300);
             job.effects = effects(|number| 1_000_000_000 * sign * turned(number));
