@@ -1,15 +1,19 @@
 //! The generator reaches every refusal and kind of place of a job of edition 2,
 //! every kind of value and the largest rows.
 
+mod common;
+
+use common::streams::{
+    answer_to, header_word_labels, reach_all, refusal_labels, section_labels, shape_labels,
+    sum_of_cases, Faults, REFUSALS_IN_EVERY_EDITION,
+};
 use second::account::{Account, State};
-use second::generator::{case, damaged, faults_of, Case, Edition};
+use second::generator::{case, Case, Edition};
 use second::job::Job;
-use second::lanes::lane_count;
 use second::loads::Question;
-use second::rng::Rng;
 use second::sections::Sections;
 use second::words::{joined, words_of};
-use second::{chosen, solve, store, Answer};
+use second::{chosen, store};
 use std::collections::BTreeSet;
 use std::ops::Range;
 
@@ -17,12 +21,12 @@ const CASES: u64 = 20_000;
 const MOST: i64 = 100_000_000_000_000;
 
 /// What is worth reaching about a case.
-fn labels(case: &Case, answer: &Answer) -> Vec<String> {
-    let words = words_of(&case.job);
+fn labels(case: &Case) -> Vec<String> {
+    let answer = answer_to(case);
     if answer.refusal != 0 {
-        return refusal_labels(case, &words, answer);
+        return refusal_labels(Edition::Two, case, &answer, place_labels);
     }
-    let job = Job::decode(&words);
+    let job = Job::decode(&words_of(&case.job));
     if job.edition != Edition::Two {
         return vec![];
     }
@@ -32,45 +36,20 @@ fn labels(case: &Case, answer: &Answer) -> Vec<String> {
     labels
 }
 
-fn refusal_labels(case: &Case, words: &[i32], answer: &Answer) -> Vec<String> {
-    let (number, place) = (answer.refusal, answer.place as usize);
-    let of_edition_2 = words.first() == Some(&2);
-    let mut labels = match number {
-        1 => not_a_job_labels(case, words),
-        _ if !of_edition_2 => vec!["in another edition".into()],
-        2 => header_labels(words, place),
-        3 if words.len() < place => vec!["too few".into()],
-        3 => vec!["too many".into()],
-        9 => vec!["a short patch buffer".into()],
-        _ => section_labels(words, place),
-    };
-    let patch_is_short = || case.patch.len() < words[2] as usize;
-    let pieces_are_lawful = || (1..=1000).contains(&words[2]);
-    if of_edition_2 && ![1, 9].contains(&number) && pieces_are_lawful() && patch_is_short() {
-        labels.push("before 9".into());
+fn place_labels(words: &[i32], number: u64, place: usize) -> Vec<String> {
+    if number == 2 {
+        return header_labels(words, place);
     }
-    let numbered = |label: String| format!("{number}: {label}");
-    labels.into_iter().map(numbered).collect()
-}
-
-fn not_a_job_labels(case: &Case, words: &[i32]) -> Vec<String> {
-    let bytes = case.job.len();
-    let label = match words.first() {
-        None => "no word 0".into(),
-        Some(2) if bytes < 48 => format!("{bytes} bytes"),
-        _ if !bytes.is_multiple_of(4) => "uneven".into(),
-        Some(edition @ (0 | 3 | 5 | -2)) => format!("edition {edition}"),
-        _ => "another edition".into(),
-    };
-    vec![label]
+    let mut labels = section_labels(words, place, 3);
+    let sections = Sections::called_for_by(words);
+    if sections.effects.contains(&place) {
+        labels.extend(effect_labels(words, &sections, place));
+    }
+    labels
 }
 
 fn header_labels(words: &[i32], place: usize) -> Vec<String> {
-    let word = words[place];
-    let mut labels = vec![format!("word {place}"), format!("word {place} is {word}")];
-    if word.unsigned_abs() > 1_000_000 {
-        labels.push(format!("word {place} is far off"));
-    }
+    let mut labels = header_word_labels(words, place);
     for later in [10, 11] {
         if place < later && words[later] != 0 {
             labels.push(format!("word {place} before {later}"));
@@ -79,39 +58,9 @@ fn header_labels(words: &[i32], place: usize) -> Vec<String> {
     labels
 }
 
-/// The place within its section, and what of an effect is at fault.
-fn section_labels(words: &[i32], place: usize) -> Vec<String> {
-    let sections = Sections::called_for_by(words);
-    let mut labels = vec![];
-    for (name, section, each) in [
-        ("piece", &sections.line, 2),
-        ("transverse", &sections.transverse, 1),
-        ("effect", &sections.effects, 3),
-        ("row", &sections.rows, 4),
-        ("record", &sections.records, 3),
-    ] {
-        if !section.contains(&place) {
-            continue;
-        }
-        let within = place - section.start;
-        labels.push(format!("{name} word {}", within % each));
-        for (holds, which) in [
-            (within < each, "first"),
-            (place + each >= section.end, "last"),
-        ] {
-            if holds {
-                labels.push(format!("{which} {name}"));
-            }
-        }
-        if name == "effect" {
-            labels.extend(effect_labels(words, &sections, place, within % each));
-        }
-    }
-    labels
-}
-
-fn effect_labels(words: &[i32], sections: &Sections, place: usize, at: usize) -> Vec<String> {
-    if at == 2 {
+/// What of an effect is at fault.
+fn effect_labels(words: &[i32], sections: &Sections, place: usize) -> Vec<String> {
+    if (place - sections.effects.start) % 3 == 2 {
         return vec![format!("mark {}", words[place])];
     }
     let (low, high) = (words[place], words[place + 1]);
@@ -139,14 +88,10 @@ fn effect_labels(words: &[i32], sections: &Sections, place: usize, at: usize) ->
 }
 
 fn job_labels(job: &Job) -> Vec<String> {
-    let mut labels = vec![
-        format!("h {}", job.piece_length),
-        format!("{} lanes", lane_count(job.width)),
-        format!("dynamic kind {}", job.dynamic_kind),
-        format!("{} effects", job.effects.len()),
-        format!("{} rows", job.rows.len()),
-        format!("{} records", job.records.len()),
-    ];
+    let mut labels = shape_labels(job);
+    labels.push(format!("{} effects", job.effects.len()));
+    labels.push(format!("{} rows", job.rows.len()));
+    labels.push(format!("{} records", job.records.len()));
     for row in &job.rows {
         labels.push(format!("live kind {}", row.live_kind));
         let chain = job.chain(row);
@@ -228,11 +173,6 @@ fn expected_labels() -> BTreeSet<String> {
 
 fn expected_refusals() -> Vec<String> {
     let mut expected: Vec<String> = [
-        "1: no word 0",
-        "1: uneven",
-        "1: another edition",
-        "3: too few",
-        "3: too many",
         "4: piece word 0",
         "4: piece word 1",
         "4: transverse word 0",
@@ -241,10 +181,10 @@ fn expected_refusals() -> Vec<String> {
         "6: last effect",
         "7: row word 0",
         "8: row word 0",
-        "9: a short patch buffer",
     ]
     .map(String::from)
     .to_vec();
+    expected.extend(REFUSALS_IN_EVERY_EDITION.map(String::from));
     expected.extend([40, 43, 44, 47].map(|bytes| format!("1: {bytes} bytes")));
     expected.extend([0, 3, 5, -2].map(|edition| format!("1: edition {edition}")));
     expected.extend((1..=11).map(|place| format!("2: word {place}")));
@@ -334,66 +274,39 @@ fn expected_outcomes() -> Vec<String> {
     expected
 }
 
-#[track_caller]
-fn reach_all(cases: impl Iterator<Item = Case>) {
-    let mut reached = BTreeSet::new();
-    for case in cases {
-        let answer = solve(&case.job, &mut case.patch.clone());
-        reached.extend(labels(&case, &answer));
-    }
-    let missed: Vec<_> = expected_labels().difference(&reached).cloned().collect();
-    assert!(missed.is_empty(), "never reached: {missed:#?}");
-}
-
 #[test]
 fn every_refusal_value_and_outcome_is_reached() {
-    reach_all((0..CASES).map(|seed| case(Edition::Two, seed)));
+    let cases = (0..CASES).map(|seed| case(Edition::Two, seed));
+    reach_all(cases, labels, expected_labels());
 }
 
 #[test]
 fn the_stored_cases_reach_every_refusal_value_and_outcome() {
-    let edition = Edition::Two;
-    reach_all(store::generated_cases(edition).chain(chosen::cases(edition)));
+    let generated = store::generated_cases(Edition::Two);
+    let cases = generated.chain(chosen::cases(Edition::Two));
+    reach_all(cases, labels, expected_labels());
 }
 
-/// A single fault gets its own refusal; the count's fault may leave the count as
-/// it was or make the line too long.
+const FAULTS: Faults = Faults {
+    edition: Edition::Two,
+    order: &[1, 2, 3, 4, 5, 6, 7, 8, 9],
+    admitted_since: &[],
+    least_of_3: 180,
+};
+
 #[test]
 fn a_fault_alone_gives_its_refusal() {
-    for &fault in faults_of(Edition::Two) {
-        let hits = (0..200).filter(|&seed| {
-            let case = damaged(&mut Rng::new(seed), Edition::Two, &[fault]);
-            solve(&case.job, &mut case.patch.clone()).refusal == fault
-        });
-        let least = if fault == 3 { 180 } else { 200 };
-        assert!(hits.count() >= least, "refusal {fault}");
-    }
+    FAULTS.each_alone_gives_its_refusal();
 }
 
 /// Of two faults the lower refusal is given.
 #[test]
 fn two_faults_give_the_lower_refusal() {
-    for low in [1, 2, 4, 5, 6, 7, 8] {
-        for high in low + 1..=9 {
-            for seed in 0..20 {
-                let case = damaged(&mut Rng::new(seed), Edition::Two, &[low, high]);
-                let answer = solve(&case.job, &mut case.patch.clone());
-                assert_eq!(answer.refusal, low, "{low} and {high}, seed {seed}");
-            }
-        }
-    }
+    FAULTS.two_give_the_first_refusal();
 }
 
-/// A seed's case is fixed: this sum over many cases (FNV-1a) never changes,
-/// whatever other editions bring.
+/// A seed's case is fixed, whatever other editions bring.
 #[test]
 fn the_cases_of_edition_2_never_change() {
-    let mut sum = 0xcbf2_9ce4_8422_2325_u64;
-    for seed in 0..2000 {
-        let case = case(Edition::Two, seed);
-        for byte in case.job.into_iter().chain(case.patch) {
-            sum = (sum ^ u64::from(byte)).wrapping_mul(0x0000_0100_0000_01B3);
-        }
-    }
-    assert_eq!(sum, 15_329_208_469_268_208_468);
+    assert_eq!(sum_of_cases(Edition::Two), 15_329_208_469_268_208_468);
 }

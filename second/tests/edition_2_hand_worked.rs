@@ -192,46 +192,37 @@ fn sixteen_effects_of_both_signs() {
     assert_eq!(account.ultimate.greatest.value, SIXTEEN / 2 + TRAFFIC);
 }
 
+/// Of two service rows without traffic, each given by its first record and its
+/// value, the one governs greatest and the other least, wherever they stand.
+#[track_caller]
+fn govern_in_either_order(mut job: Job, greatest: (usize, i64), least: (usize, i64)) {
+    let orders = [([greatest.0, least.0], 1), ([least.0, greatest.0], 2)];
+    for (rows, row) in orders {
+        job.rows = rows
+            .map(|first| Row::new(SERVICE, LIVE_NONE, 0, first))
+            .to_vec();
+        let service = account_of(&job).service;
+        let values = (service.greatest.value, service.least.value);
+        assert_eq!(values, (greatest.1, least.1), "{rows:?}");
+        let governing = (service.greatest.row, service.least.row);
+        assert_eq!(governing, (row, 3 - row), "{rows:?}");
+    }
+}
+
 /// Rows of 2.4e18 and -2.4e18, and rows a thousandth of N·U apart: the further
 /// one governs, wherever it stands.
 #[test]
 fn distant_and_close_rows() {
     let mut job = sixteen(|at| if at < 8 { 1 } else { -1 }, 1, 1);
     job.records[7].next = 0;
-    for (rows, greatest) in [([1, 9], 1), ([9, 1], 2)] {
-        job.rows = rows
-            .map(|first| Row::new(SERVICE, LIVE_NONE, 0, first))
-            .to_vec();
-        let service = account_of(&job).service;
-        assert_eq!(
-            (service.greatest.value, service.greatest.row),
-            (SIXTEEN / 2, greatest)
-        );
-        assert_eq!(
-            (service.least.value, service.least.row),
-            (-SIXTEEN / 2, 3 - greatest)
-        );
-    }
+    govern_in_either_order(job, (1, SIXTEEN / 2), (9, -SIXTEEN / 2));
 
     let mut job = sixteen(|_| 1, 1, 1);
     job.effects[15].value = 1;
     job.records[14].next = 0;
     job.records[15] = Record::new(16, 1, 1);
     let fifteen = 15 * 3000 * 100_000_000_000_000;
-    for (rows, greatest) in [([1, 16], 2), ([16, 1], 1)] {
-        job.rows = rows
-            .map(|first| Row::new(SERVICE, LIVE_NONE, 0, first))
-            .to_vec();
-        let service = account_of(&job).service;
-        assert_eq!(
-            (service.greatest.value, service.greatest.row),
-            (fifteen + 1, greatest)
-        );
-        assert_eq!(
-            (service.least.value, service.least.row),
-            (fifteen, 3 - greatest)
-        );
-    }
+    govern_in_either_order(job, (16, fifteen + 1), (1, fifteen));
 }
 
 /// Longitudinal effects of the arch in 75 N·U: the line's ordinates above 0 add

@@ -4,8 +4,11 @@
 
 mod common;
 
-use common::refused;
-use second::solve;
+use common::refusals::{
+    self, accepted_with, no_job_of_lengths, refused, refused_at_each,
+    refused_with_a_word_more_or_fewer, refused_without_a_patch_buffer, HEADER_FAULTS, LARGEST,
+    ORDINATES_PAST_LIMITS, TRANSVERSE_PAST_LIMITS,
+};
 use second::words::{bytes_of, changed, Change};
 
 /// A sound job of edition 2, of 41 words.
@@ -33,27 +36,17 @@ const LEAST_HIGH: i32 = -23_284;
 
 #[track_caller]
 fn refused_with(changes: &[Change], expected: (u64, u64)) {
-    let what = format!("{changes:?}");
-    refused(&bytes_of(&changed(&SOUND, changes)), 1, expected, &what);
-}
-
-#[track_caller]
-fn accepted_with(changes: &[Change]) {
-    let answer = solve(&bytes_of(&changed(&SOUND, changes)), &mut [0; 1]);
-    assert_eq!((answer.refusal, answer.place), (0, 0), "{changes:?}");
+    refusals::refused_with(&SOUND, changes, expected);
 }
 
 #[test]
 fn the_sound_job_is_accepted() {
-    accepted_with(&[]);
+    accepted_with(&SOUND, &[]);
 }
 
 #[test]
 fn refusal_1_below_twelve_words() {
-    for length in 0..48 {
-        let job = &bytes_of(&SOUND)[..length];
-        refused(job, 1, (1, 0), &format!("{length} bytes"));
-    }
+    no_job_of_lengths(&SOUND, 0..48);
     refused(&bytes_of(&SOUND)[..48], 1, (3, 41), "the header alone");
 }
 
@@ -74,11 +67,7 @@ fn refusal_1_for_headers_of_other_lengths() {
 
 #[test]
 fn refusal_1_for_uneven_bytes_and_other_editions() {
-    for length in [49, 50, 51, 161, 162, 163, 165, 166, 167] {
-        let mut job = bytes_of(&SOUND);
-        job.resize(length, 0);
-        refused(&job, 1, (1, 0), &format!("{length} bytes"));
-    }
+    no_job_of_lengths(&SOUND, [49, 50, 51, 161, 162, 163, 165, 166, 167]);
     for edition in [0, 3, 5, -2, 258, 0x0200_0000, i32::MIN, i32::MAX] {
         refused_with(&[(0, edition)], (1, 0));
         refused_with(&[(0, edition), (10, 1), (23, 0)], (1, 0));
@@ -95,23 +84,15 @@ fn word_0_chooses_the_limits() {
 
 #[test]
 fn refusal_2_at_each_word_of_the_header() {
-    for (place, words) in [
-        (1, &[0, 3, 51, -50, i32::MIN, i32::MAX][..]),
-        (2, &[0, 21, -1, 1001, i32::MAX]),
-        (3, &[9, 51, -10, i32::MIN]),
-        (4, &[299, 2080, 0, -300, i32::MIN, i32::MAX]),
-        (5, &[0, 4, -1, i32::MAX]),
-        (6, &[1, -1, i32::MIN]),
-        (7, &[-1, 17, i32::MIN, i32::MAX]),
+    refused_at_each(&SOUND, 2, &HEADER_FAULTS);
+    let further = [
+        (7, &[-1, 17, i32::MIN, i32::MAX][..]),
         (8, &[0, 33, -1, i32::MIN, i32::MAX]),
         (9, &[-1, 513, i32::MIN, i32::MAX]),
         (10, &[1, -1, 2, 3, 2000, 0x0100_0000, i32::MIN, i32::MAX]),
         (11, &[1, -1, 2, 0x0100_0000, i32::MIN, i32::MAX]),
-    ] {
-        for &word in words {
-            refused_with(&[(place, word)], (2, place as u64));
-        }
-    }
+    ];
+    refused_at_each(&SOUND, 2, &further);
 }
 
 #[test]
@@ -130,12 +111,7 @@ fn refusal_2_at_the_lowest_place() {
 /// The kinds of dynamic factor with their values are edition 1's.
 #[test]
 fn dynamic_kinds_and_values() {
-    for (kind, value) in [(1, 1000), (1, 1300), (2, 0), (3, 0), (3, 5000)] {
-        accepted_with(&[(5, kind), (6, value)]);
-    }
-    for (kind, value) in [(1, 999), (1, 1301), (2, 1), (3, -1), (3, 5001)] {
-        refused_with(&[(5, kind), (6, value)], (2, 6));
-    }
+    refusals::dynamic_kinds_and_values(&SOUND);
     refused_with(&[(5, 4), (6, 120), (10, 120)], (2, 5));
 }
 
@@ -154,11 +130,7 @@ fn words_10_and_11_before_all_that_follows() {
 /// Three words are due for an effect: 12 + 2 + 7 + 3E + 4R + 3C.
 #[test]
 fn refusal_3_for_another_word_count() {
-    let mut words = SOUND.to_vec();
-    words.push(2);
-    refused(&bytes_of(&words), 1, (3, 41), "a word more");
-    words.truncate(40);
-    refused(&bytes_of(&words), 1, (3, 41), "a word fewer");
+    refused_with_a_word_more_or_fewer(&SOUND, 41);
     for (effects, due) in [(0, 35), (1, 38), (3, 44), (16, 83)] {
         refused_with(&[(7, effects)], (3, due));
     }
@@ -180,28 +152,13 @@ fn sections_follow_the_header() {
 /// 12 + 2000 + 209 + 48 + 128 + 1536 words: every section as long as it may be.
 #[test]
 fn the_most_words_that_can_be_due() {
-    let largest = [
-        (1, 1),
-        (2, 1000),
-        (3, 10),
-        (4, 2079),
-        (7, 16),
-        (8, 32),
-        (9, 512),
-    ];
-    refused_with(&largest, (3, 3933));
+    refused_with(&LARGEST, (3, 3933));
 }
 
 #[test]
 fn refusals_4_and_5_of_the_lines() {
-    for word in [5001, -5001, 65541, i32::MIN] {
-        refused_with(&[(12, word)], (4, 12));
-        refused_with(&[(13, word)], (4, 13));
-    }
-    for word in [1001, -1001, 65541] {
-        refused_with(&[(14, word)], (4, 14));
-        refused_with(&[(20, word)], (4, 20));
-    }
+    refused_at_each(&SOUND, 4, &[12, 13].map(|at| (at, ORDINATES_PAST_LIMITS)));
+    refused_at_each(&SOUND, 4, &[14, 20].map(|at| (at, TRANSVERSE_PAST_LIMITS)));
     refused_with(&[(13, -8)], (5, 12));
     refused_with(&[(20, 1001), (22, 23_284)], (4, 20));
     refused_with(&[(13, -8), (22, 23_284)], (5, 12));
@@ -240,7 +197,7 @@ fn values_within_their_limits_are_accepted() {
             (-1, LEAST_HIGH),
             (0, LEAST_HIGH + 1),
         ] {
-            accepted_with(&[(low, low_half), (low + 1, high_half)]);
+            accepted_with(&SOUND, &[(low, low_half), (low + 1, high_half)]);
         }
     }
 }
@@ -278,7 +235,7 @@ fn refusal_6_at_the_mark() {
         refused_with(&[(23, mark)], (6, 23));
         refused_with(&[(26, mark)], (6, 26));
     }
-    accepted_with(&[(23, 2), (26, 1)]);
+    accepted_with(&SOUND, &[(23, 2), (26, 1)]);
 }
 
 #[test]
@@ -299,7 +256,7 @@ fn refusal_6_at_the_lowest_place() {
 /// The limits of rows and records are edition 1's.
 #[test]
 fn refusal_6_in_rows_and_records() {
-    for (place, words) in [
+    let faults = [
         (27, &[0, 3, i32::MIN][..]),
         (28, &[-1, 3, i32::MAX]),
         (29, &[-1, 3001]),
@@ -308,11 +265,8 @@ fn refusal_6_in_rows_and_records() {
         (35, &[0, 3, -1]),
         (36, &[-1, 3001]),
         (37, &[-1, 3]),
-    ] {
-        for &word in words {
-            refused_with(&[(place, word)], (6, place as u64));
-        }
-    }
+    ];
+    refused_at_each(&SOUND, 6, &faults);
 }
 
 #[test]
@@ -331,9 +285,9 @@ fn refusals_7_and_8_at_the_rows() {
 
 #[test]
 fn refusal_9_comes_last() {
-    refused(&bytes_of(&SOUND), 0, (9, 1), "no patch buffer");
-    for (changes, expected) in [
-        (&[(0, 3)][..], (1, 0)),
+    let table = [
+        (&[][..], (9, 1)),
+        (&[(0, 3)], (1, 0)),
         (&[(11, 1)], (2, 11)),
         (&[(7, 3)], (3, 44)),
         (&[(12, 5001)], (4, 12)),
@@ -341,8 +295,6 @@ fn refusal_9_comes_last() {
         (&[(22, 23_284)], (6, 21)),
         (&[(40, 2)], (7, 27)),
         (&[(38, 1)], (8, 27)),
-    ] {
-        let words = changed(&SOUND, changes);
-        refused(&bytes_of(&words), 0, expected, &format!("{changes:?}"));
-    }
+    ];
+    refused_without_a_patch_buffer(&SOUND, &table);
 }

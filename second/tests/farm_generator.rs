@@ -1,26 +1,32 @@
 //! Edition 4's stream reaches every refusal, by every cause and kind of place,
 //! every built-in row in every question, and every shape of farm job.
 
+mod common;
+
+use common::streams::{
+    answer_to, header_word_labels, reach_all, refusal_labels, shape_labels, sum_of_cases, Faults,
+    REFUSALS_IN_EVERY_EDITION,
+};
 use second::account::{Account, Governing};
 use second::combination::Part;
 use second::farm;
-use second::generator::{case, damaged, faults_of, Case, Edition};
+use second::generator::{case, Case, Edition};
 use second::job::Job;
 use second::line::patch_byte;
 use second::loads::Question;
-use second::rng::Rng;
 use second::sections::Sections;
 use second::words::words_of;
-use second::{chosen, solve, store, Answer};
+use second::{chosen, store};
 use std::collections::BTreeSet;
 use std::ops::Range;
 
 const CASES: u64 = 20_000;
 
 /// What is worth reaching about a case.
-fn labels(case: &Case, answer: &Answer) -> Vec<String> {
+fn labels(case: &Case) -> Vec<String> {
+    let answer = answer_to(case);
     if answer.refusal != 0 {
-        return refusal_labels(case, answer);
+        return refusal_labels(Edition::Four, case, &answer, place_labels);
     }
     let job = Job::decode(&words_of(&case.job));
     if job.edition != Edition::Four {
@@ -31,48 +37,17 @@ fn labels(case: &Case, answer: &Answer) -> Vec<String> {
     labels
 }
 
-fn refusal_labels(case: &Case, answer: &Answer) -> Vec<String> {
-    let words = words_of(&case.job);
-    let (number, place) = (answer.refusal, answer.place as usize);
-    let mut labels = match number {
-        1 => not_a_job_labels(case, &words),
-        2 => header_labels(&words, place),
-        11 => width_labels(&words),
-        3 if words.len() < place => vec!["too few".into()],
-        3 => vec!["too many".into()],
-        6 => effect_labels(&words, place),
-        9 => vec!["a short patch buffer".into()],
-        _ => ordinate_labels(&words, place),
-    };
-    let patch_is_short = || case.patch.len() < words[2] as usize;
-    if number != 1 && number != 9 && (1..=1000).contains(&words[2]) && patch_is_short() {
-        labels.push("before 9".into());
+fn place_labels(words: &[i32], number: u64, place: usize) -> Vec<String> {
+    match number {
+        2 => header_labels(words, place),
+        11 => width_labels(words),
+        6 => effect_labels(words, place),
+        _ => ordinate_labels(words, place),
     }
-    let numbered = |label: String| format!("{number}: {label}");
-    labels.into_iter().map(numbered).collect()
-}
-
-fn not_a_job_labels(case: &Case, words: &[i32]) -> Vec<String> {
-    let bytes = case.job.len();
-    let label = match words.first() {
-        None => "no word 0".into(),
-        Some(4) if bytes < 44 => format!("{bytes} bytes"),
-        _ if !bytes.is_multiple_of(4) => "uneven".into(),
-        Some(edition @ (0 | 3 | 5 | -4)) => format!("edition {edition}"),
-        _ => "another edition".into(),
-    };
-    vec![label]
 }
 
 fn header_labels(words: &[i32], place: usize) -> Vec<String> {
-    if words[0] != 4 {
-        return vec!["in another edition".into()];
-    }
-    let word = words[place];
-    let mut labels = vec![format!("word {place}"), format!("word {place} is {word}")];
-    if word.unsigned_abs() > 1_000_000 {
-        labels.push(format!("word {place} is far off"));
-    }
+    let mut labels = header_word_labels(words, place);
     if place == 10 && !(300..=430).contains(&words[4]) {
         labels.push("before 11".into());
     }
@@ -131,10 +106,7 @@ fn ordinate_labels(words: &[i32], place: usize) -> Vec<String> {
 
 fn job_labels(job: &Job) -> Vec<String> {
     let barriers = job.further_header[0];
-    let mut labels = vec![
-        format!("h {}", job.piece_length),
-        format!("dynamic kind {}", job.dynamic_kind),
-    ];
+    let mut labels = shape_labels(job);
     match job.width {
         300 | 370 | 430 => labels.push(format!("W {}, barriers {barriers}", job.width)),
         _ => labels.push(format!("W between, barriers {barriers}")),
@@ -246,19 +218,14 @@ fn expected_labels() -> BTreeSet<String> {
 
 fn expected_refusals() -> Vec<String> {
     let mut expected: Vec<String> = [
-        "1: no word 0",
-        "1: uneven",
-        "1: another edition",
         "2: before 11",
-        "3: too few",
-        "3: too many",
         "4: a piece",
         "4: a transverse ordinate",
         "5: a piece",
-        "9: a short patch buffer",
     ]
     .map(String::from)
     .to_vec();
+    expected.extend(REFUSALS_IN_EVERY_EDITION.map(String::from));
     expected.extend((40..44).map(|bytes| format!("1: {bytes} bytes")));
     expected.extend([0, 3, 5, -4].map(|edition| format!("1: edition {edition}")));
     expected.extend((1..=10).map(|place| format!("2: word {place}")));
@@ -343,76 +310,39 @@ fn expected_outcomes() -> Vec<String> {
     expected
 }
 
-#[track_caller]
-fn reach_all(cases: impl Iterator<Item = Case>) {
-    let mut reached = BTreeSet::new();
-    for case in cases {
-        let answer = solve(&case.job, &mut case.patch.clone());
-        reached.extend(labels(&case, &answer));
-    }
-    let missed: Vec<_> = expected_labels().difference(&reached).cloned().collect();
-    assert!(missed.is_empty(), "never reached: {missed:#?}");
-}
-
 #[test]
 fn every_refusal_row_and_shape_is_reached() {
-    reach_all((0..CASES).map(|seed| case(Edition::Four, seed)));
+    let cases = (0..CASES).map(|seed| case(Edition::Four, seed));
+    reach_all(cases, labels, expected_labels());
 }
 
 #[test]
 fn the_stored_cases_reach_every_refusal_row_and_shape() {
-    let edition = Edition::Four;
-    reach_all(store::generated_cases(edition).chain(chosen::cases(edition)));
+    let generated = store::generated_cases(Edition::Four);
+    let cases = generated.chain(chosen::cases(Edition::Four));
+    reach_all(cases, labels, expected_labels());
 }
 
-fn of_edition_2(case: &Case) -> bool {
-    case.job.starts_with(&[2, 0, 0, 0])
-}
+const FAULTS: Faults = Faults {
+    edition: Edition::Four,
+    order: &[1, 2, 11, 3, 4, 5, 6, 9],
+    admitted_since: &[Edition::Two],
+    least_of_3: 170,
+};
 
-/// A single fault gets its own refusal; the count's fault may leave the count as
-/// it was or make the line too long, and a word 0 of 2 is that of an edition.
 #[test]
 fn a_fault_alone_gives_its_refusal() {
-    for &fault in faults_of(Edition::Four) {
-        let hits = (0..200).filter(|&seed| {
-            let case = damaged(&mut Rng::new(seed), Edition::Four, &[fault]);
-            of_edition_2(&case) || solve(&case.job, &mut case.patch.clone()).refusal == fault
-        });
-        let least = if fault == 3 { 170 } else { 200 };
-        assert!(hits.count() >= least, "refusal {fault}");
-    }
+    FAULTS.each_alone_gives_its_refusal();
 }
 
-/// Of two faults the one that is tested first is given: 1, 2, 11, 3, 4, 5, 6, 9.
+/// Of two faults the one that is tested first is given.
 #[test]
 fn two_faults_give_the_first_refusal() {
-    let order = [1, 2, 11, 3, 4, 5, 6, 9];
-    assert_eq!(faults_of(Edition::Four), order);
-    for (at, &first) in order.iter().enumerate().filter(|(_, &first)| first != 3) {
-        for &other in &order[at + 1..] {
-            for seed in 0..20 {
-                let case = damaged(&mut Rng::new(seed), Edition::Four, &[first, other]);
-                let answer = solve(&case.job, &mut case.patch.clone());
-                let renamed = first == 1 && of_edition_2(&case);
-                assert!(
-                    renamed || answer.refusal == first,
-                    "{first} and {other}, seed {seed}"
-                );
-            }
-        }
-    }
+    FAULTS.two_give_the_first_refusal();
 }
 
-/// A seed's case is fixed: this sum over many cases (FNV-1a) never changes,
-/// whatever other editions bring.
+/// A seed's case is fixed, whatever other editions bring.
 #[test]
 fn the_cases_of_edition_4_never_change() {
-    let mut sum = 0xcbf2_9ce4_8422_2325_u64;
-    for seed in 0..2000 {
-        let case = case(Edition::Four, seed);
-        for byte in case.job.into_iter().chain(case.patch) {
-            sum = (sum ^ u64::from(byte)).wrapping_mul(0x0000_0100_0000_01B3);
-        }
-    }
-    assert_eq!(sum, 13_955_522_561_190_928_816);
+    assert_eq!(sum_of_cases(Edition::Four), 13_955_522_561_190_928_816);
 }

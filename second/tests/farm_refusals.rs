@@ -3,8 +3,11 @@
 
 mod common;
 
-use common::refused;
-use second::solve;
+use common::refusals::{
+    self, accepted, accepted_with, no_job_of_lengths, refused, refused_at_each,
+    refused_with_a_word_more_or_fewer, refused_without_a_patch_buffer, HEADER_FAULTS,
+    ORDINATES_PAST_LIMITS, TRANSVERSE_PAST_LIMITS,
+};
 use second::words::{bytes_of, changed, Change};
 
 /// A sound farm job of 42 words.
@@ -22,14 +25,7 @@ const SOUND: [i32; 42] = [
 
 #[track_caller]
 fn refused_with(changes: &[Change], expected: (u64, u64)) {
-    let what = format!("{changes:?}");
-    refused(&bytes_of(&changed(&SOUND, changes)), 1, expected, &what);
-}
-
-#[track_caller]
-fn accepted(words: &[i32], what: &str) {
-    let answer = solve(&bytes_of(words), &mut [0; 1]);
-    assert_eq!((answer.refusal, answer.place), (0, 0), "{what}");
+    refusals::refused_with(&SOUND, changes, expected);
 }
 
 /// `SOUND` with this width and barriers and as many transverse ordinates, all 0,
@@ -44,15 +40,12 @@ fn of_width(width: i32, barriers: i32) -> Vec<i32> {
 
 #[test]
 fn the_sound_job_is_accepted() {
-    accepted(&SOUND, "as it is");
+    accepted_with(&SOUND, &[]);
 }
 
 #[test]
 fn refusal_1_below_eleven_words() {
-    for length in 0..44 {
-        let job = &bytes_of(&SOUND)[..length];
-        refused(job, 1, (1, 0), &format!("{length} bytes"));
-    }
+    no_job_of_lengths(&SOUND, 0..44);
     refused(&bytes_of(&SOUND)[..44], 1, (3, 42), "the header alone");
 }
 
@@ -67,11 +60,7 @@ fn ten_words_are_due_for_edition_1() {
 
 #[test]
 fn refusal_1_for_uneven_bytes_and_other_editions() {
-    for length in [45, 46, 47, 165, 166, 167, 169, 170, 171] {
-        let mut job = bytes_of(&SOUND);
-        job.resize(length, 0);
-        refused(&job, 1, (1, 0), &format!("{length} bytes"));
-    }
+    no_job_of_lengths(&SOUND, [45, 46, 47, 165, 166, 167, 169, 170, 171]);
     for edition in [0, 3, 5, -4, 260, 0x0400_0000, i32::MIN, i32::MAX] {
         refused_with(&[(0, edition)], (1, 0));
         refused_with(&[(0, edition), (10, 0), (4, 431)], (1, 0));
@@ -87,22 +76,14 @@ fn word_0_chooses_the_limits() {
 
 #[test]
 fn refusal_2_at_each_word_of_the_header() {
-    for (place, words) in [
-        (1, &[0, 3, 51, -50, i32::MIN, i32::MAX][..]),
-        (2, &[0, 21, -1, 1001, i32::MAX]),
-        (3, &[9, 51, -10, i32::MIN]),
-        (4, &[299, 2080, 0, -300, i32::MIN, i32::MAX]),
-        (5, &[0, 4, -1, i32::MAX]),
-        (6, &[1, -1, i32::MIN]),
-        (7, &[10, 12, 0, 16, -11, i32::MIN, i32::MAX]),
+    refused_at_each(&SOUND, 2, &HEADER_FAULTS);
+    let further = [
+        (7, &[10, 12, 0, 16, -11, i32::MIN, i32::MAX][..]),
         (8, &[1, -1, 2, 32, i32::MIN, i32::MAX]),
         (9, &[1, -1, 12, 512, i32::MIN, i32::MAX]),
         (10, &[0, 4, -1, -2, 257, i32::MIN, i32::MAX]),
-    ] {
-        for &word in words {
-            refused_with(&[(place, word)], (2, place as u64));
-        }
-    }
+    ];
+    refused_at_each(&SOUND, 2, &further);
 }
 
 #[test]
@@ -116,12 +97,7 @@ fn refusal_2_at_the_lowest_place() {
 /// The kinds of dynamic factor with their values are edition 1's.
 #[test]
 fn dynamic_kinds_and_values() {
-    for (kind, value) in [(1, 1000), (1, 1300), (2, 0), (3, 0), (3, 5000)] {
-        accepted(&changed(&SOUND, &[(5, kind), (6, value)]), "kinds");
-    }
-    for (kind, value) in [(1, 999), (1, 1301), (2, 1), (3, -1), (3, 5001)] {
-        refused_with(&[(5, kind), (6, value)], (2, 6));
-    }
+    refusals::dynamic_kinds_and_values(&SOUND);
 }
 
 /// Each width of note with each barriers: 0 where it is accepted.
@@ -174,11 +150,7 @@ fn refusal_11_between_2_and_3() {
 
 #[test]
 fn refusal_3_for_another_word_count() {
-    let mut words = SOUND.to_vec();
-    words.push(2);
-    refused(&bytes_of(&words), 1, (3, 42), "a word more");
-    words.truncate(41);
-    refused(&bytes_of(&words), 1, (3, 42), "a word fewer");
+    refused_with_a_word_more_or_fewer(&SOUND, 42);
     refused_with(&[(2, 2)], (3, 44));
     refused_with(&[(3, 49)], (3, 43));
     // Rows and records after the effects are words too many.
@@ -189,14 +161,8 @@ fn refusal_3_for_another_word_count() {
 
 #[test]
 fn refusals_4_and_5_of_the_lines() {
-    for word in [5001, -5001, 65541, i32::MIN] {
-        refused_with(&[(11, word)], (4, 11));
-        refused_with(&[(12, word)], (4, 12));
-    }
-    for word in [1001, -1001, 65541] {
-        refused_with(&[(13, word)], (4, 13));
-        refused_with(&[(19, word)], (4, 19));
-    }
+    refused_at_each(&SOUND, 4, &[11, 12].map(|at| (at, ORDINATES_PAST_LIMITS)));
+    refused_at_each(&SOUND, 4, &[13, 19].map(|at| (at, TRANSVERSE_PAST_LIMITS)));
     refused_with(&[(12, -8)], (5, 11));
     refused_with(&[(12, -8), (19, 1001)], (4, 19));
     refused_with(&[(12, -8), (21, 2)], (5, 11));
@@ -218,7 +184,7 @@ fn refusal_6_for_each_value() {
     for effect in 0..11 {
         let place = 20 + 2 * effect;
         for value in [1_000_000_000, -1_000_000_000, 0] {
-            accepted(&changed(&SOUND, &[(place, value)]), "at a limit");
+            accepted_with(&SOUND, &[(place, value)]);
         }
         for value in [1_000_000_001, -1_000_000_001, i32::MIN, i32::MAX] {
             refused_with(&[(place, value)], (6, place as u64));
@@ -231,17 +197,15 @@ fn refusal_6_for_each_value() {
 
 #[test]
 fn refusal_9_comes_last() {
-    refused(&bytes_of(&SOUND), 0, (9, 1), "no patch buffer");
-    for (changes, expected) in [
-        (&[(0, 3)][..], (1, 0)),
+    let table = [
+        (&[][..], (9, 1)),
+        (&[(0, 3)], (1, 0)),
         (&[(10, 4)], (2, 10)),
         (&[(4, 371)], (11, 4)),
         (&[(2, 2)], (3, 44)),
         (&[(11, 5001)], (4, 11)),
         (&[(11, -1)], (5, 11)),
         (&[(41, 1)], (6, 41)),
-    ] {
-        let words = changed(&SOUND, changes);
-        refused(&bytes_of(&words), 0, expected, &format!("{changes:?}"));
-    }
+    ];
+    refused_without_a_patch_buffer(&SOUND, &table);
 }

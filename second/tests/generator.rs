@@ -1,22 +1,25 @@
 //! The generator reaches every refusal, by every cause and kind of place, and
 //! every shape of job and outcome.
 
+mod common;
+
+use common::streams::{answer_to, reach_all, section_labels, shape_labels, sum_of_cases, Faults};
 use second::account::Account;
-use second::generator::{case, damaged, Case, Edition};
+use second::generator::{case, Case, Edition};
 use second::job::Job;
 use second::lanes::lane_count;
 use second::line::{pair_ordinates, patch_byte, pieces_between_axles, stations, Stand};
 use second::loads::Side;
-use second::rng::Rng;
 use second::sections::Sections;
 use second::words::words_of;
-use second::{solve, Answer};
+use second::{store, Answer};
 use std::collections::BTreeSet;
 
 const CASES: u64 = 8_000;
 
 /// What is worth reaching about a case.
-fn labels(case: &Case, answer: &Answer) -> Vec<String> {
+fn labels(case: &Case) -> Vec<String> {
+    let answer = answer_to(case);
     if answer.refusal == 0 {
         let job = Job::decode(&words_of(&case.job));
         let mut labels = job_labels(&job);
@@ -26,7 +29,7 @@ fn labels(case: &Case, answer: &Answer) -> Vec<String> {
         }
         labels
     } else {
-        refusal_labels(case, answer)
+        refusal_labels(case, &answer)
     }
 }
 
@@ -51,34 +54,19 @@ fn refusal_labels(case: &Case, answer: &Answer) -> Vec<String> {
         }
         3 if words.len() < place => reached("too few"),
         3 => reached("too many"),
+        9 => reached(match case.patch.len() {
+            0 => "no patch bytes",
+            length if length + 1 == place => "one byte short",
+            _ => "some bytes short",
+        }),
         _ => {
-            let sections = Sections::called_for_by(&words);
-            let mut in_section = |name: &str, section: &std::ops::Range<usize>, each: usize| {
-                if section.contains(&place) {
-                    let within = place - section.start;
-                    reached(&format!("{name} word {}", within % each));
-                    if within < each {
-                        reached(&format!("first {name}"));
-                    }
-                    if place + each >= section.end {
-                        reached(&format!("last {name}"));
-                    }
-                    if name == "row" && within % each == 2 && words[place - 1] == 0 {
-                        reached("live factor for kind 0");
-                    }
-                }
-            };
-            in_section("piece", &sections.line, 2);
-            in_section("transverse", &sections.transverse, 1);
-            in_section("effect", &sections.effects, 2);
-            in_section("row", &sections.rows, 4);
-            in_section("record", &sections.records, 3);
-            if number == 9 {
-                reached(match case.patch.len() {
-                    0 => "no patch bytes",
-                    length if length + 1 == place => "one byte short",
-                    _ => "some bytes short",
-                });
+            for label in section_labels(&words, place, 2) {
+                reached(&label);
+            }
+            let rows = Sections::called_for_by(&words).rows;
+            let is_live_factor = rows.contains(&place) && (place - rows.start) % 4 == 2;
+            if is_live_factor && words[place - 1] == 0 {
+                reached("live factor for kind 0");
             }
         }
     }
@@ -86,11 +74,7 @@ fn refusal_labels(case: &Case, answer: &Answer) -> Vec<String> {
 }
 
 fn job_labels(job: &Job) -> Vec<String> {
-    let mut labels = vec![
-        format!("h {}", job.piece_length),
-        format!("{} lanes", lane_count(job.width)),
-        format!("dynamic kind {}", job.dynamic_kind),
-    ];
+    let mut labels = shape_labels(job);
     if job.pieces.len() as i64 * job.piece_length == 1000 {
         labels.push(format!("longest line of h {}", job.piece_length));
     }
@@ -434,74 +418,36 @@ fn expected_labels() -> BTreeSet<String> {
 
 #[test]
 fn the_cases_reach_every_refusal_and_shape() {
-    let mut reached = BTreeSet::new();
-    for seed in 0..CASES {
-        let case = case(Edition::One, seed);
-        let answer = solve(&case.job, &mut case.patch.clone());
-        reached.extend(labels(&case, &answer));
-    }
-    let missed: Vec<_> = expected_labels().difference(&reached).cloned().collect();
-    assert!(missed.is_empty(), "never reached: {missed:?}");
+    let cases = (0..CASES).map(|seed| case(Edition::One, seed));
+    reach_all(cases, labels, expected_labels());
 }
 
 #[test]
 fn the_stored_cases_reach_every_refusal_and_shape() {
-    let mut reached = BTreeSet::new();
-    for case in second::store::generated_cases(Edition::One) {
-        let answer = solve(&case.job, &mut case.patch.clone());
-        reached.extend(labels(&case, &answer));
-    }
-    let missed: Vec<_> = expected_labels().difference(&reached).cloned().collect();
-    assert!(missed.is_empty(), "never reached: {missed:?}");
+    let cases = store::generated_cases(Edition::One);
+    reach_all(cases, labels, expected_labels());
 }
 
-fn of_edition_2(case: &Case) -> bool {
-    case.job.starts_with(&[2, 0, 0, 0])
-}
+const FAULTS: Faults = Faults {
+    edition: Edition::One,
+    order: &[1, 2, 3, 4, 5, 6, 7, 8, 9],
+    admitted_since: &[Edition::Two],
+    least_of_3: 180,
+};
 
-/// A single fault nearly always gets its own refusal; the count's fault may
-/// leave the count as it was or make the line too long, and a word 0 of 2 is that
-/// of an edition.
 #[test]
 fn a_fault_alone_gives_its_refusal() {
-    for fault in 1..=9 {
-        let hits = (0..200).filter(|&seed| {
-            let case = damaged(&mut Rng::new(seed), Edition::One, &[fault]);
-            of_edition_2(&case) || solve(&case.job, &mut case.patch.clone()).refusal == fault
-        });
-        let least = if fault == 3 { 180 } else { 200 };
-        assert!(hits.count() >= least, "refusal {fault}");
-    }
+    FAULTS.each_alone_gives_its_refusal();
 }
 
 /// Of two faults the lower refusal is given.
 #[test]
 fn two_faults_give_the_lower_refusal() {
-    for low in [1, 2, 4, 5, 6, 7, 8] {
-        for high in low + 1..=9 {
-            for seed in 0..20 {
-                let case = damaged(&mut Rng::new(seed), Edition::One, &[low, high]);
-                let answer = solve(&case.job, &mut case.patch.clone());
-                let renamed = low == 1 && of_edition_2(&case);
-                assert!(
-                    renamed || answer.refusal == low,
-                    "{low} and {high}, seed {seed}"
-                );
-            }
-        }
-    }
+    FAULTS.two_give_the_first_refusal();
 }
 
-/// A seed's case is fixed: this sum over many cases (FNV-1a) never changes,
-/// whatever other editions bring.
+/// A seed's case is fixed, whatever other editions bring.
 #[test]
 fn the_cases_of_edition_1_never_change() {
-    let mut sum = 0xcbf2_9ce4_8422_2325_u64;
-    for seed in 0..2000 {
-        let case = case(Edition::One, seed);
-        for byte in case.job.into_iter().chain(case.patch) {
-            sum = (sum ^ u64::from(byte)).wrapping_mul(0x0000_0100_0000_01B3);
-        }
-    }
-    assert_eq!(sum, 3_699_499_953_521_068_672);
+    assert_eq!(sum_of_cases(Edition::One), 3_699_499_953_521_068_672);
 }

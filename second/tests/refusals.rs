@@ -3,9 +3,11 @@
 
 mod common;
 
-use common::refused;
+use common::refusals::{
+    self, accepted, accepted_with, no_job_of_lengths, refused, refused_at_each, WordFaults, LARGEST,
+};
 use second::solve;
-use second::words::bytes_of;
+use second::words::{bytes_of, changed, Change};
 
 /// A sound job of 42 words.
 const SOUND: [i32; 42] = [
@@ -26,42 +28,24 @@ const SOUND: [i32; 42] = [
     2, 900, 0,
 ];
 
-/// `SOUND` with these words changed.
-fn with(changes: &[(usize, i32)]) -> Vec<i32> {
-    let mut words = SOUND.to_vec();
-    for &(place, word) in changes {
-        words[place] = word;
-    }
-    words
-}
-
 #[track_caller]
-fn refused_with(changes: &[(usize, i32)], expected: (u64, u64)) {
-    let what = format!("{changes:?}");
-    refused(&bytes_of(&with(changes)), 2, expected, &what);
+fn refused_with(changes: &[Change], expected: (u64, u64)) {
+    refusals::refused_with(&SOUND, changes, expected);
 }
 
 #[test]
 fn the_sound_job_is_accepted() {
-    let answer = solve(&bytes_of(&SOUND), &mut [0; 2]);
-    assert_eq!((answer.refusal, answer.place), (0, 0));
+    accepted_with(&SOUND, &[]);
 }
 
 #[test]
 fn refusal_1_for_every_byte_count_below_ten_words() {
-    for length in 0..40 {
-        let job = &bytes_of(&SOUND)[..length];
-        refused(job, 2, (1, 0), &format!("{length} bytes"));
-    }
+    no_job_of_lengths(&SOUND, 0..40);
 }
 
 #[test]
 fn refusal_1_for_byte_counts_not_divisible_by_4() {
-    for length in [41, 42, 43, 165, 166, 167, 169, 170, 171] {
-        let mut job = bytes_of(&SOUND);
-        job.resize(length, 0);
-        refused(&job, 2, (1, 0), &format!("{length} bytes"));
-    }
+    no_job_of_lengths(&SOUND, [41, 42, 43, 165, 166, 167, 169, 170, 171]);
 }
 
 #[test]
@@ -69,14 +53,14 @@ fn refusal_1_for_another_edition() {
     for edition in [0, 3, -1, 257, 0x0100_0000, i32::MIN, i32::MAX] {
         refused_with(&[(0, edition)], (1, 0));
         // Ten words and no more, with faults of refusal 2 as well.
-        let header = &bytes_of(&with(&[(0, edition), (1, 3), (9, -1)]))[..40];
+        let header = &bytes_of(&changed(&SOUND, &[(0, edition), (1, 3), (9, -1)]))[..40];
         refused(header, 2, (1, 0), "header only");
     }
 }
 
 #[test]
 fn refusal_2_at_each_header_word() {
-    let table: [(usize, &[i32]); 9] = [
+    let faults: [WordFaults; 9] = [
         (
             1,
             &[0, -1, 3, 4, 6, 9, 20, 26, 49, 51, 100, i32::MIN, i32::MAX],
@@ -90,11 +74,7 @@ fn refusal_2_at_each_header_word() {
         (8, &[0, 33, -1, i32::MIN, i32::MAX]),
         (9, &[-1, 513, i32::MIN, i32::MAX]),
     ];
-    for (place, words) in table {
-        for &word in words {
-            refused_with(&[(place, word)], (2, place as u64));
-        }
-    }
+    refused_at_each(&SOUND, 2, &faults);
 }
 
 /// The line may be 1000 dm long: N is at most 1000/h.
@@ -122,12 +102,7 @@ fn refusal_2_at_word_6_by_the_kind_in_word_5() {
         refused_with(&[(5, 4), (6, word)], (2, 5));
     }
     for (kind, value) in [(1, 1000), (1, 1300), (2, 0), (3, 0), (3, 5000)] {
-        let job = bytes_of(&with(&[(5, kind), (6, value)]));
-        assert_eq!(
-            solve(&job, &mut [0; 2]).refusal,
-            0,
-            "kind {kind} at {value}"
-        );
+        accepted_with(&SOUND, &[(5, kind), (6, value)]);
     }
 }
 
@@ -143,7 +118,8 @@ fn refusal_2_gives_the_lowest_of_several_places() {
 
 #[test]
 fn refusal_2_needs_ten_words_only() {
-    refused(&bytes_of(&with(&[(8, 0)])[..10]), 0, (2, 8), "header only");
+    let header = &changed(&SOUND, &[(8, 0)])[..10];
+    refused(&bytes_of(header), 0, (2, 8), "header only");
 }
 
 #[test]
@@ -167,21 +143,12 @@ fn refusal_3_gives_the_count_due() {
     refused_with(&[(3, 49)], (3, 43));
     refused_with(&[(3, 10)], (3, 66));
     // The largest: 10 + 2000 + 209 + 32 + 128 + 1536.
-    let largest = [
-        (1, 1),
-        (2, 1000),
-        (3, 10),
-        (4, 2079),
-        (7, 16),
-        (8, 32),
-        (9, 512),
-    ];
-    refused_with(&largest, (3, 3915));
+    refused_with(&LARGEST, (3, 3915));
 }
 
 #[test]
 fn refusal_3_comes_before_4_to_9() {
-    let mut words = with(&[(10, 6000), (12, -1), (22, 3), (35, 1)]);
+    let mut words = changed(&SOUND, &[(10, 6000), (12, -1), (22, 3), (35, 1)]);
     words.pop();
     refused(&bytes_of(&words), 0, (3, 42), "all later faults too");
 }
@@ -264,8 +231,7 @@ fn ordinates_at_their_limits_are_accepted() {
     for (places, most) in table {
         for word in [most, -most] {
             let changes: Vec<_> = places.clone().map(|place| (place, word)).collect();
-            let answer = solve(&bytes_of(&with(&changes)), &mut [0; 2]);
-            assert_eq!((answer.refusal, answer.place), (0, 0), "{changes:?}");
+            accepted_with(&SOUND, &changes);
         }
     }
 }
@@ -286,8 +252,7 @@ fn refusal_5_at_a_pieces_left_ordinate() {
     refused_with(&[(12, 1), (13, -1)], (5, 12));
     refused_with(&[(10, 1), (11, -1), (12, 1), (13, -1)], (5, 10));
     // Signs may change between pieces.
-    let job = bytes_of(&with(&[(10, 5), (11, 5), (12, -5), (13, -5)]));
-    assert_eq!(solve(&job, &mut [0; 2]).refusal, 0);
+    accepted_with(&SOUND, &[(10, 5), (11, 5), (12, -5), (13, -5)]);
     refused_with(&[(12, 1), (13, -1), (22, 0), (35, 1)], (5, 12));
 }
 
@@ -307,7 +272,7 @@ fn refusal_6_at_each_effect_word() {
 
 #[test]
 fn refusal_6_at_each_row_word() {
-    let table: [(usize, &[i32]); 8] = [
+    let faults: [WordFaults; 8] = [
         (25, &[0, 3, -1, i32::MIN, i32::MAX]),
         (26, &[-1, 3, i32::MIN, i32::MAX]),
         (27, &[-1, 3001, i32::MIN, i32::MAX]),
@@ -318,17 +283,12 @@ fn refusal_6_at_each_row_word() {
         (31, &[-1, 1, 1000, 3000, 3001, i32::MIN, i32::MAX]),
         (32, &[-1, 4, i32::MIN, i32::MAX]),
     ];
-    for (place, words) in table {
-        for &word in words {
-            refused_with(&[(place, word)], (6, place as u64));
-        }
-    }
+    refused_at_each(&SOUND, 6, &faults);
     // Row 1 turned to kind 0 keeps its live factor of 1350.
     refused_with(&[(26, 0)], (6, 27));
     // With kind 1 or 2, row 2 may have a factor.
     for kind in [1, 2] {
-        let job = bytes_of(&with(&[(30, kind), (31, 3000)]));
-        assert_eq!(solve(&job, &mut [0; 2]).refusal, 0);
+        accepted_with(&SOUND, &[(30, kind), (31, 3000)]);
     }
 }
 
@@ -355,7 +315,7 @@ fn refusal_6_at_each_record_word() {
 /// rows stand at 21 to 28 and records at 29 to 37.
 #[test]
 fn refusal_6_at_a_record_of_a_job_without_effects() {
-    let mut words = with(&[(7, 0)]);
+    let mut words = changed(&SOUND, &[(7, 0)]);
     words.drain(21..25);
     refused(&bytes_of(&words), 2, (6, 29), "no effects");
 }
@@ -363,20 +323,20 @@ fn refusal_6_at_a_record_of_a_job_without_effects() {
 /// Without records a row's chain can only be empty. Rows stay at 25 to 32.
 #[test]
 fn refusal_6_at_a_row_of_a_job_without_records() {
-    let mut words = with(&[(9, 0)]);
+    let mut words = changed(&SOUND, &[(9, 0)]);
     words.truncate(33);
     refused(&bytes_of(&words), 2, (6, 28), "row 1 names record 1");
     words[28] = 0;
     refused(&bytes_of(&words), 2, (6, 32), "row 2 names record 3");
     words[32] = 0;
-    assert_eq!(solve(&bytes_of(&words), &mut [0; 2]).refusal, 0);
+    accepted(&words, "empty chains");
 }
 
 #[test]
 fn refusal_6_comes_before_7_to_9_and_gives_its_lowest_place() {
     refused_with(&[(35, 1), (41, 4)], (6, 41));
     refused_with(&[(41, 4), (21, i32::MAX), (29, 0)], (6, 21));
-    let words = with(&[(35, 1), (40, 3001)]);
+    let words = changed(&SOUND, &[(35, 1), (40, 3001)]);
     refused(&bytes_of(&words), 0, (6, 40), "short patch buffer too");
 }
 
@@ -413,7 +373,7 @@ fn refusal_8_at_the_rows_first_word() {
     refused_with(&[(41, 2)], (8, 29));
     // First and last of a chain of three, records 1, 2, 3: effects 2, 1, 2.
     refused_with(&[(33, 2), (36, 1), (38, 3), (32, 0)], (8, 25));
-    let words = with(&[(33, 2)]);
+    let words = changed(&SOUND, &[(33, 2)]);
     refused(&bytes_of(&words), 1, (8, 25), "short patch buffer too");
 }
 
@@ -427,8 +387,7 @@ fn records_on_no_chain_are_not_tested_for_7_and_8() {
         &[(28, 0), (33, 2)],
         &[(28, 0), (32, 0), (35, 2), (38, 1)],
     ] {
-        let answer = solve(&bytes_of(&with(changes)), &mut [0; 2]);
-        assert_eq!((answer.refusal, answer.place), (0, 0), "{changes:?}");
+        accepted_with(&SOUND, changes);
     }
 }
 
@@ -441,12 +400,12 @@ fn refusal_9_for_a_short_patch_buffer() {
 
 #[test]
 fn refusal_9_at_the_number_of_pieces() {
-    let mut words = with(&[(1, 1), (2, 1000)]);
+    let mut words = changed(&SOUND, &[(1, 1), (2, 1000)]);
     words.splice(10..14, vec![0; 2000]);
     for patch_bytes in [0, 1, 2, 999] {
         refused(&bytes_of(&words), patch_bytes, (9, 1000), "1000 pieces");
     }
-    assert_eq!(solve(&bytes_of(&words), &mut [0; 1000]).refusal, 0);
+    accepted(&words, "1000 pieces");
 }
 
 /// Bytes past N keep their old contents.

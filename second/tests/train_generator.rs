@@ -3,6 +3,7 @@
 
 mod common;
 
+use common::streams::{fnv_1a, reach_all};
 use common::train_definition::stands_that_give;
 use second::generator::train::{case, damaged, Fault};
 use second::line::pieces_of;
@@ -14,7 +15,8 @@ use std::collections::BTreeSet;
 const CASES: u64 = 20_000;
 
 /// What is worth reaching about a case.
-fn labels(case: &TrainCase, answer: &TrainAnswer) -> Vec<String> {
+fn labels(case: &TrainCase) -> Vec<String> {
+    let answer = &rate(case);
     match answer.refusal {
         0 => [train_labels(case), outcome_labels(case, answer)].concat(),
         number => {
@@ -451,13 +453,7 @@ fn expected_labels() -> BTreeSet<String> {
 
 #[test]
 fn the_trains_reach_every_refusal_and_shape() {
-    let mut reached = BTreeSet::new();
-    for seed in 0..CASES {
-        let case = case(seed);
-        reached.extend(labels(&case, &rate(&case)));
-    }
-    let missed: Vec<_> = expected_labels().difference(&reached).cloned().collect();
-    assert!(missed.is_empty(), "never reached: {missed:?}");
+    reach_all((0..CASES).map(case), labels, expected_labels());
 }
 
 #[test]
@@ -486,27 +482,23 @@ fn two_faults_give_the_lower_refusal() {
     }
 }
 
-/// A seed's case is fixed: this sum over many cases (FNV-1a) never changes,
-/// whatever other streams bring.
+fn bytes_of(case: &TrainCase) -> Vec<u8> {
+    let mut bytes = vec![];
+    for number in [case.h, case.pieces, case.mode] {
+        bytes.extend(number.to_le_bytes());
+    }
+    bytes.extend(&case.line);
+    for axle in &case.train {
+        bytes.extend(axle.load.to_le_bytes());
+        bytes.extend(axle.at.to_le_bytes());
+    }
+    bytes.extend(&case.report);
+    bytes
+}
+
+/// A seed's case is fixed, whatever other streams bring.
 #[test]
 fn the_trains_never_change() {
-    let mut sum = 0xcbf2_9ce4_8422_2325_u64;
-    let mut take = |bytes: &[u8]| {
-        for &byte in bytes {
-            sum = (sum ^ u64::from(byte)).wrapping_mul(0x0000_0100_0000_01B3);
-        }
-    };
-    for seed in 0..2000 {
-        let case = case(seed);
-        for number in [case.h, case.pieces, case.mode] {
-            take(&number.to_le_bytes());
-        }
-        take(&case.line);
-        for axle in &case.train {
-            take(&axle.load.to_le_bytes());
-            take(&axle.at.to_le_bytes());
-        }
-        take(&case.report);
-    }
-    assert_eq!(sum, 12_147_367_848_118_954_821);
+    let bytes = (0..2000).flat_map(|seed| bytes_of(&case(seed)));
+    assert_eq!(fnv_1a(bytes), 12_147_367_848_118_954_821);
 }

@@ -1,10 +1,13 @@
-//! Jobs and trains shared by several tests, and what is due for any.
+//! Jobs and trains shared by several tests, what is due for any, and what is
+//! asked in every edition.
 
 #![allow(dead_code)] // Each test file uses some of these.
 
 pub mod call;
 pub mod definition;
 pub mod farm_tables;
+pub mod refusals;
+pub mod streams;
 pub mod train_definition;
 
 use second::edition::Edition;
@@ -14,19 +17,6 @@ use second::job::{
 };
 use second::line::section_bytes;
 use second::train::{Axle, TrainCase};
-use second::{solve, Account};
-
-/// Holds a job's refusal and place against the ones expected, and that the
-/// account is zero and the patch buffer keeps its bytes.
-#[track_caller]
-pub fn refused(job: &[u8], patch_bytes: usize, expected: (u64, u64), what: &str) {
-    let before: Vec<u8> = (0..patch_bytes).map(|byte| byte as u8 ^ 0xA5).collect();
-    let mut patch = before.clone();
-    let answer = solve(job, &mut patch);
-    assert_eq!((answer.refusal, answer.place), expected, "{what}");
-    assert_eq!(answer.account, Account::default(), "{what}");
-    assert_eq!(patch, before, "{what}");
-}
 
 pub fn pieces(ordinates: &[(i64, i64)]) -> Vec<Piece> {
     ordinates

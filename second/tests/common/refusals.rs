@@ -1,0 +1,119 @@
+//! A sound job's words with some of them changed, and faults that are the same in
+//! every edition. A sound job has a patch buffer of a byte a piece.
+
+use second::sections::PIECES;
+use second::words::{bytes_of, changed, Change};
+use second::{solve, Account};
+
+/// Holds a job's refusal and place against the ones expected, and that the
+/// account is zero and the patch buffer keeps its bytes.
+#[track_caller]
+pub fn refused(job: &[u8], patch_bytes: usize, expected: (u64, u64), what: &str) {
+    let before: Vec<u8> = (0..patch_bytes).map(|byte| byte as u8 ^ 0xA5).collect();
+    let mut patch = before.clone();
+    let answer = solve(job, &mut patch);
+    assert_eq!((answer.refusal, answer.place), expected, "{what}");
+    assert_eq!(answer.account, Account::default(), "{what}");
+    assert_eq!(patch, before, "{what}");
+}
+
+#[track_caller]
+pub fn accepted(words: &[i32], what: &str) {
+    let answer = solve(&bytes_of(words), &mut vec![0; patch_bytes(words)]);
+    assert_eq!((answer.refusal, answer.place), (0, 0), "{what}");
+}
+
+fn patch_bytes(words: &[i32]) -> usize {
+    words[PIECES] as usize
+}
+
+#[track_caller]
+pub fn refused_with(sound: &[i32], changes: &[Change], expected: (u64, u64)) {
+    let job = bytes_of(&changed(sound, changes));
+    refused(&job, patch_bytes(sound), expected, &format!("{changes:?}"));
+}
+
+#[track_caller]
+pub fn accepted_with(sound: &[i32], changes: &[Change]) {
+    accepted(&changed(sound, changes), &format!("{changes:?}"));
+}
+
+/// A place and words that are at fault there.
+pub type WordFaults<'a> = (usize, &'a [i32]);
+
+/// Each of the words is refused at its place.
+#[track_caller]
+pub fn refused_at_each(sound: &[i32], refusal: u64, faults: &[WordFaults]) {
+    for &(place, words) in faults {
+        for &word in words {
+            refused_with(sound, &[(place, word)], (refusal, place as u64));
+        }
+    }
+}
+
+/// A sound job's bytes, cut off or filled up with zeros to each of these lengths,
+/// are no job.
+#[track_caller]
+pub fn no_job_of_lengths(sound: &[i32], lengths: impl IntoIterator<Item = usize>) {
+    for length in lengths {
+        let mut job = bytes_of(sound);
+        job.resize(length, 0);
+        let what = format!("{length} bytes");
+        refused(&job, patch_bytes(sound), (1, 0), &what);
+    }
+}
+
+#[track_caller]
+pub fn refused_with_a_word_more_or_fewer(sound: &[i32], due: u64) {
+    let mut words = sound.to_vec();
+    words.push(2);
+    let patch_bytes = patch_bytes(sound);
+    refused(&bytes_of(&words), patch_bytes, (3, due), "a word more");
+    words.truncate(sound.len() - 1);
+    refused(&bytes_of(&words), patch_bytes, (3, due), "a word fewer");
+}
+
+/// Changes and the refusals they give without a patch buffer.
+#[track_caller]
+pub fn refused_without_a_patch_buffer(sound: &[i32], table: &[(&[Change], (u64, u64))]) {
+    for &(changes, expected) in table {
+        let job = bytes_of(&changed(sound, changes));
+        refused(&job, 0, expected, &format!("{changes:?}"));
+    }
+}
+
+/// The header's words 1 to 6 past their limits, in a job of h 50 and dynamic kind
+/// 2.
+pub const HEADER_FAULTS: [WordFaults; 6] = [
+    (1, &[0, 3, 51, -50, i32::MIN, i32::MAX]),
+    (2, &[0, 21, -1, 1001, i32::MAX]),
+    (3, &[9, 51, -10, i32::MIN]),
+    (4, &[299, 2080, 0, -300, i32::MIN, i32::MAX]),
+    (5, &[0, 4, -1, i32::MAX]),
+    (6, &[1, -1, i32::MIN]),
+];
+
+pub const ORDINATES_PAST_LIMITS: &[i32] = &[5001, -5001, 65541, i32::MIN];
+pub const TRANSVERSE_PAST_LIMITS: &[i32] = &[1001, -1001, 65541];
+
+/// Every section as long as it may be.
+pub const LARGEST: [Change; 7] = [
+    (1, 1),
+    (2, 1000),
+    (3, 10),
+    (4, 2079),
+    (7, 16),
+    (8, 32),
+    (9, 512),
+];
+
+/// The kinds of dynamic factor with their values.
+#[track_caller]
+pub fn dynamic_kinds_and_values(sound: &[i32]) {
+    for (kind, value) in [(1, 1000), (1, 1300), (2, 0), (3, 0), (3, 5000)] {
+        accepted_with(sound, &[(5, kind), (6, value)]);
+    }
+    for (kind, value) in [(1, 999), (1, 1301), (2, 1), (3, -1), (3, 5001)] {
+        refused_with(sound, &[(5, kind), (6, value)], (2, 6));
+    }
+}

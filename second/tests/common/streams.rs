@@ -1,0 +1,187 @@
+//! What is asked of every stream: that its cases reach what they are to reach,
+//! that a fault gives its refusal, and that a seed's case never changes.
+
+use second::generator::{case, damaged, faults_of, Case, Edition};
+use second::job::Job;
+use second::lanes::lane_count;
+use second::rng::Rng;
+use second::sections::Sections;
+use second::words::{words_of, WORD_BYTES};
+use second::{solve, Answer};
+use std::collections::BTreeSet;
+
+pub fn answer_to(case: &Case) -> Answer {
+    solve(&case.job, &mut case.patch.clone())
+}
+
+/// Each label that is expected is one of some case.
+#[track_caller]
+pub fn reach_all<C>(
+    cases: impl Iterator<Item = C>,
+    labels: impl Fn(&C) -> Vec<String>,
+    expected: BTreeSet<String>,
+) {
+    let reached: BTreeSet<String> = cases.flat_map(|case| labels(&case)).collect();
+    let missed: Vec<_> = expected.difference(&reached).collect();
+    assert!(missed.is_empty(), "never reached: {missed:#?}");
+}
+
+/// What the faults of an edition's stream come to.
+pub struct Faults {
+    pub edition: Edition,
+    /// The refusals, in the order in which they are tested.
+    pub order: &'static [u64],
+    /// Editions that a fault of word 0 may name, whose own tests then apply.
+    pub admitted_since: &'static [Edition],
+    /// Of 200 faults of the count, how many at least give 3; the others leave the
+    /// count as it was or make the line too long.
+    pub least_of_3: usize,
+}
+
+impl Faults {
+    #[track_caller]
+    pub fn each_alone_gives_its_refusal(&self) {
+        for &fault in self.order {
+            let missed: Vec<u64> = (0..200)
+                .filter(|&seed| self.refusal_given(&[fault], seed) != fault)
+                .collect();
+            let least = if fault == 3 { self.least_of_3 } else { 200 };
+            let given = 200 - missed.len();
+            assert!(given >= least, "refusal {fault}, not for seeds {missed:?}");
+        }
+    }
+
+    /// But for 3, whose fault may come to nothing.
+    #[track_caller]
+    pub fn two_give_the_first_refusal(&self) {
+        assert_eq!(faults_of(self.edition), self.order);
+        for (at, &first) in self.order.iter().enumerate() {
+            if first == 3 {
+                continue;
+            }
+            for &other in &self.order[at + 1..] {
+                for seed in 0..20 {
+                    let given = self.refusal_given(&[first, other], seed);
+                    assert_eq!(given, first, "{first} and {other}, seed {seed}");
+                }
+            }
+        }
+    }
+
+    /// The refusal that these faults give; 1 where word 0 is that of an edition
+    /// admitted since.
+    fn refusal_given(&self, faults: &[u64], seed: u64) -> u64 {
+        let case = damaged(&mut Rng::new(seed), self.edition, faults);
+        match Edition::of_words(&words_of(&case.job)) {
+            Some(named) if self.admitted_since.contains(&named) => 1,
+            _ => answer_to(&case).refusal,
+        }
+    }
+}
+
+/// A sum over many of an edition's cases.
+pub fn sum_of_cases(edition: Edition) -> u64 {
+    let bytes_of_case = |seed| {
+        let case = case(edition, seed);
+        case.job.into_iter().chain(case.patch)
+    };
+    fnv_1a((0..2000).flat_map(bytes_of_case))
+}
+
+pub fn fnv_1a(bytes: impl Iterator<Item = u8>) -> u64 {
+    bytes.fold(0xcbf2_9ce4_8422_2325, |sum, byte| {
+        (sum ^ u64::from(byte)).wrapping_mul(0x0000_0100_0000_01B3)
+    })
+}
+
+/// Labels of `refusal_labels` that are due in every edition.
+pub const REFUSALS_IN_EVERY_EDITION: [&str; 6] = [
+    "1: no word 0",
+    "1: uneven",
+    "1: another edition",
+    "3: too few",
+    "3: too many",
+    "9: a short patch buffer",
+];
+
+/// The labels of a refused case, each behind the refusal's number; none for a job
+/// of another edition. `place_labels` has a job's words, the refusal and its place.
+pub fn refusal_labels(
+    edition: Edition,
+    case: &Case,
+    answer: &Answer,
+    place_labels: impl Fn(&[i32], u64, usize) -> Vec<String>,
+) -> Vec<String> {
+    let words = words_of(&case.job);
+    let (number, place) = (answer.refusal, answer.place as usize);
+    let mut labels = match number {
+        1 => vec![no_job_label(&case.job, edition)],
+        _ if Edition::of_words(&words) != Some(edition) => return vec![],
+        3 if words.len() < place => vec!["too few".into()],
+        3 => vec!["too many".into()],
+        9 => vec!["a short patch buffer".into()],
+        _ => place_labels(&words, number, place),
+    };
+    let patch_is_short = || case.patch.len() < words[2] as usize;
+    if ![1, 9].contains(&number) && (1..=1000).contains(&words[2]) && patch_is_short() {
+        labels.push("before 9".into());
+    }
+    let numbered = |label: String| format!("{number}: {label}");
+    labels.into_iter().map(numbered).collect()
+}
+
+fn no_job_label(job: &[u8], edition: Edition) -> String {
+    let bytes = job.len();
+    let header = edition.header_words() * WORD_BYTES;
+    match words_of(job).first() {
+        None => "no word 0".into(),
+        Some(&number) if number == edition.number() && bytes < header => format!("{bytes} bytes"),
+        _ if !bytes.is_multiple_of(WORD_BYTES) => "uneven".into(),
+        Some(number @ -9..=9) => format!("edition {number}"),
+        Some(_) => "another edition".into(),
+    }
+}
+
+pub fn header_word_labels(words: &[i32], place: usize) -> Vec<String> {
+    let word = words[place];
+    let mut labels = vec![format!("word {place}"), format!("word {place} is {word}")];
+    if word.unsigned_abs() > 1_000_000 {
+        labels.push(format!("word {place} is far off"));
+    }
+    labels
+}
+
+/// The place within its section.
+pub fn section_labels(words: &[i32], place: usize, words_per_effect: usize) -> Vec<String> {
+    let sections = Sections::called_for_by(words);
+    let mut labels = vec![];
+    for (name, section, each) in [
+        ("piece", sections.line, 2),
+        ("transverse", sections.transverse, 1),
+        ("effect", sections.effects, words_per_effect),
+        ("row", sections.rows, 4),
+        ("record", sections.records, 3),
+    ] {
+        if !section.contains(&place) {
+            continue;
+        }
+        let within = place - section.start;
+        labels.push(format!("{name} word {}", within % each));
+        if within < each {
+            labels.push(format!("first {name}"));
+        }
+        if place + each >= section.end {
+            labels.push(format!("last {name}"));
+        }
+    }
+    labels
+}
+
+/// The shape that a job of any edition has.
+pub fn shape_labels(job: &Job) -> Vec<String> {
+    vec![
+        format!("h {}", job.piece_length),
+        format!("{} lanes", lane_count(job.width)),
+        format!("dynamic kind {}", job.dynamic_kind),
+    ]
+}
