@@ -1,8 +1,8 @@
-//! 01 "Arrangements, for demand 3" and 02 "Farm bridges": arrangements in k-ths,
-//! judged and evaluated in exact fractions. Nothing here asks for the best of anything.
-//! With the code that does, it shares only the lane count, the loads and
-//! factors of loads.rs, what edition.rs says of an edition and the patch byte
-//! that a direction loads.
+//! 01 "Arrangements, for demand 3", 02 "Farm bridges" and "Span by sign":
+//! arrangements in k-ths, judged and evaluated in exact fractions. Nothing here asks
+//! for the best of anything. With the code that does, it shares only the lane count,
+//! the loads and factors of loads.rs, a job's dynamic factors, what edition.rs says
+//! of an edition and the patch byte that a direction loads.
 
 use crate::account::{entry_of, side_of, Account, Traffic, UNLOADED};
 use crate::fraction::Fraction;
@@ -10,7 +10,7 @@ use crate::job::{Job, Piece};
 use crate::lanes::{lane_count, EDGE_DISTANCE, MOST_LANES};
 use crate::line::loaded_byte;
 use crate::loads::{
-    dynamic_factor, reduction, Element, Live, Side, AXLE_DISTANCE, OVERLOAD_ELEMENT_TWENTIETHS,
+    reduction, Element, Live, Question, Side, AXLE_DISTANCE, OVERLOAD_ELEMENT_TWENTIETHS,
     UNIFORM_LOAD, X_OVER, X_TIMES,
 };
 use std::ops::Range;
@@ -93,8 +93,9 @@ impl Arrangement {
         }
     }
 
-    /// 3X/800000, or the edition's share of it, in N·U, before it is rounded.
-    pub fn effect(&self, job: &Job) -> Fraction {
+    /// 3X/800000, or the edition's share of it, in N·U, with the dynamic factor of a
+    /// question, before it is rounded for it.
+    pub fn effect(&self, job: &Job, question: Question) -> Fraction {
         let mut hn_set = 0_u32;
         let mut hn_sum = Fraction::ZERO;
         let mut ho_sum = Fraction::ZERO;
@@ -111,8 +112,7 @@ impl Arrangement {
         }
         let in_twentieths = hn_sum * Fraction::whole(reduction(hn_set).into())
             + ho_sum * Fraction::whole(OVERLOAD_ELEMENT_TWENTIETHS.into());
-        let dynamic = dynamic_factor(job.dynamic_kind, job.dynamic_value);
-        let x = in_twentieths * Fraction::whole(dynamic.into());
+        let x = in_twentieths * Fraction::whole(job.dynamic_factor(question).into());
         let (share, whole) = job.edition.share_of_x();
         x * Fraction::new(X_TIMES, X_OVER) * Fraction::new(share, whole)
     }

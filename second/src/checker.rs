@@ -133,7 +133,7 @@ fn check_traffic(
     let in_placement = |fault: String| format!("{name}'s placement: {fault}");
     let arrangement = reported_placement(job, patch, account, traffic).map_err(in_placement)?;
     arrangement.lawful(job, live).map_err(in_placement)?;
-    let given = arrangement.effect(job).round(question);
+    let given = arrangement.effect(job, question).round(question);
     same(
         &format!("{name}'s placement's effect"),
         given,

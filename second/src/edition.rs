@@ -1,8 +1,9 @@
 //! The editions of the job that are admitted, and what differs between them:
 //! edition 1 is 01's, edition 4 that of 02 "Farm bridges", edition 2 that of 02
-//! "Effects past a word".
+//! "Effects past a word" and "Span by sign".
 
 use crate::sections;
+use std::ops::RangeInclusive;
 
 #[derive(Debug, Clone, Copy, PartialEq, Eq)]
 pub enum Edition {
@@ -46,6 +47,14 @@ impl Edition {
             Edition::One => 10,
             Edition::Two => 12,
             Edition::Four => 11,
+        }
+    }
+
+    /// The dynamic kinds: edition 2 has spans by sign, too.
+    pub fn dynamic_kinds(self) -> RangeInclusive<i32> {
+        match self {
+            Edition::One | Edition::Four => 1..=3,
+            Edition::Two => 1..=4,
         }
     }
 

@@ -1,8 +1,9 @@
-//! 01 "The job's words", 02 "Farm bridges" and "Effects past a word": a job
-//! decoded into its fields, and encoded again.
+//! 01 "The job's words", 02 "Farm bridges", "Effects past a word" and "Span by
+//! sign": a job decoded into its fields, and encoded again.
 
 use crate::edition::Edition;
 use crate::line;
+use crate::loads::{self, Question};
 use crate::sections::{self, Sections};
 use crate::words;
 
@@ -77,6 +78,9 @@ impl Record {
     }
 }
 
+/// The dynamic kind with a span for each question.
+pub const SPANS_BY_SIGN: i64 = 4;
+
 /// A job whose words are within their limits.
 #[derive(Debug, Clone, PartialEq, Eq)]
 pub struct Job {
@@ -88,9 +92,10 @@ pub struct Job {
     /// W, in cm.
     pub width: i64,
     pub dynamic_kind: i64,
+    /// With spans by sign, the one for greatest.
     pub dynamic_value: i64,
     /// The header's words past word 9, which edition 1 has none of: a farm job's
-    /// barriers, edition 2's two zeros.
+    /// barriers; edition 2's span for least, or 0, and a 0.
     pub further_header: Vec<i64>,
     pub pieces: Vec<Piece>,
     /// Transverse ordinates in thousandths, the first at the left kerb.
@@ -205,6 +210,15 @@ impl Job {
     /// The job's bytes.
     pub fn bytes(&self) -> Vec<u8> {
         words::bytes_of(&self.words())
+    }
+
+    /// The dynamic factor of a question, in thousandths.
+    pub fn dynamic_factor(&self, question: Question) -> i64 {
+        let value = match (self.dynamic_kind, question) {
+            (SPANS_BY_SIGN, Question::Least) => self.further_header[0],
+            _ => self.dynamic_value,
+        };
+        loads::dynamic_factor(self.dynamic_kind, value)
     }
 
     /// The records of a row's chain, first to last, of a chain without a return.

@@ -1,5 +1,6 @@
-//! 01 "Longitudinal effect", "Lanes" and "Dynamic factor, rounding, rows": the
-//! loads and factors that don't depend on the lines, and the two questions.
+//! 01 "Longitudinal effect", "Lanes" and "Dynamic factor, rounding, rows", 02
+//! "Span by sign": the loads and factors that don't depend on the lines, and the
+//! two questions.
 
 /// The element a loaded lane carries.
 #[derive(Debug, Clone, Copy, PartialEq, Eq)]
@@ -102,13 +103,28 @@ pub fn reduction(set: u32) -> i64 {
 /// The twentieths at which the HO element counts.
 pub const OVERLOAD_ELEMENT_TWENTIETHS: i64 = 20;
 
-/// The dynamic factor in thousandths.
+/// The dynamic factor in thousandths. The value of kind 4 is a question's span.
 pub fn dynamic_factor(kind: i64, value: i64) -> i64 {
     match kind {
         1 => value,
         2 => 1000,
-        _ => (1300 - 3 * value).max(1000),
+        3 => (1300 - 3 * value).max(1000),
+        _ => factor_of_span(value),
     }
+}
+
+/// The longest span in dm at the greatest factor.
+const LEVEL_TO: i64 = 120;
+
+/// The dynamic factor in thousandths of a span in dm: 1300 to 120 dm; beyond, 1 +
+/// 15/(L + 38), which is L + 53 over L + 38, rounded up. L is in metres, a tenth of
+/// the span, so both terms are taken ten times.
+fn factor_of_span(span: i64) -> i64 {
+    if span <= LEVEL_TO {
+        return 1300;
+    }
+    let (dividend, divisor) = (1000 * (span + 530), span + 380);
+    (dividend + divisor - 1) / divisor
 }
 
 /// X, times 3, over this is the effect in N·U.

@@ -1,10 +1,10 @@
-//! 01 "What the yard hears back", 02 "Farm bridges" and "Effects past a word":
-//! refusals 1 to 9, tested in rising number, and 11, tested straight after 2;
-//! each at its lowest place.
+//! 01 "What the yard hears back", 02 "Farm bridges", "Effects past a word" and
+//! "Span by sign": refusals 1 to 9, tested in rising number, and 11, tested
+//! straight after 2; each at its lowest place.
 
 use crate::edition::Edition;
 use crate::farm;
-use crate::job::{ALWAYS_PRESENT, MAY_BE_LEFT_OUT};
+use crate::job::{ALWAYS_PRESENT, MAY_BE_LEFT_OUT, SPANS_BY_SIGN};
 use crate::sections::{self, Sections, WORDS_PER_PIECE, WORDS_PER_RECORD, WORDS_PER_ROW};
 use crate::words::{self, WORD_BYTES};
 use std::ops::{Range, RangeInclusive};
@@ -74,28 +74,43 @@ fn header_word_outside(words: &[i32], edition: Edition) -> Option<usize> {
 /// lawful, since an unlawful one is the lower place.
 fn header_word_lawful(words: &[i32], place: usize, edition: Edition) -> bool {
     let word = words[place];
+    let dynamic_kind = words[sections::DYNAMIC_KIND].into();
     match place {
         sections::PIECE_LENGTH => piece_length_lawful(word.into()),
         sections::PIECES => pieces_lawful(words[sections::PIECE_LENGTH].into(), word.into()),
         sections::SPACING => (10..=50).contains(&word),
         sections::WIDTH => (300..=2079).contains(&word),
-        sections::DYNAMIC_KIND => (1..=3).contains(&word),
-        sections::DYNAMIC_VALUE => match words[sections::DYNAMIC_KIND] {
-            1 => (1000..=1300).contains(&word),
-            2 => word == 0,
-            _ => (0..=5000).contains(&word),
-        },
-        _ => later_header_word_limits(place, edition).contains(&word),
+        sections::DYNAMIC_KIND => edition.dynamic_kinds().contains(&word),
+        sections::DYNAMIC_VALUE => dynamic_value_limits(dynamic_kind).contains(&word),
+        _ => later_header_word_limits(place, edition, dynamic_kind).contains(&word),
+    }
+}
+
+/// The limits of a span, in dm.
+const SPANS: RangeInclusive<i32> = 1..=2000;
+
+/// The limits of the dynamic value, by its kind.
+pub fn dynamic_value_limits(dynamic_kind: i64) -> RangeInclusive<i32> {
+    match dynamic_kind {
+        1 => 1000..=1300,
+        2 => 0..=0,
+        3 => 0..=5000,
+        _ => SPANS,
     }
 }
 
 /// The limits of the header's words from the number of effects on, which differ
-/// by edition.
-pub fn later_header_word_limits(place: usize, edition: Edition) -> RangeInclusive<i32> {
+/// by edition; those of edition 2's word 10 by the dynamic kind, too.
+pub fn later_header_word_limits(
+    place: usize,
+    edition: Edition,
+    dynamic_kind: i64,
+) -> RangeInclusive<i32> {
     match (edition, place) {
         (Edition::One | Edition::Two, sections::EFFECTS) => 0..=16,
         (Edition::One | Edition::Two, sections::ROWS) => 1..=32,
         (Edition::One, _) | (Edition::Two, sections::RECORDS) => 0..=512,
+        (Edition::Two, sections::SPAN_FOR_LEAST) if dynamic_kind == SPANS_BY_SIGN => SPANS,
         (Edition::Two, _) => 0..=0,
         (Edition::Four, sections::EFFECTS) => 11..=11,
         (Edition::Four, sections::ROWS | sections::RECORDS) => 0..=0,

@@ -134,7 +134,7 @@ impl<'a> Sampler<'a> {
         let live = rng.pick(&Live::BOTH);
         let question = rng.pick(&Question::BOTH);
         let arrangement = self.draw(live, question, rng);
-        let effect = arrangement.effect(self.job).round(question);
+        let effect = arrangement.effect(self.job, question).round(question);
         let reported = account.traffic(live, question).value;
         if question.beats(effect, reported.into()) {
             assert_eq!(arrangement.lawful(self.job, live), Ok(()));

@@ -1,5 +1,5 @@
-//! 01 "The job's words", 02 "Farm bridges" and "Effects past a word": where each
-//! section of a job lies, in word places.
+//! 01 "The job's words", 02 "Farm bridges", "Effects past a word" and "Span by
+//! sign": where each section of a job lies, in word places.
 
 use crate::edition::Edition;
 use std::ops::Range;
@@ -17,6 +17,8 @@ pub const ROWS: usize = 8;
 pub const RECORDS: usize = 9;
 /// In a farm job.
 pub const BARRIERS: usize = 10;
+/// In a job of edition 2, where the kind is that of spans.
+pub const SPAN_FOR_LEAST: usize = 10;
 
 pub const WORDS_PER_PIECE: usize = 2;
 pub const WORDS_PER_ROW: usize = 4;

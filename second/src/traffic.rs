@@ -1,13 +1,13 @@
-//! 01 "Lanes" and "Dynamic factor, rounding, rows", 02 "Farm bridges": the four
-//! traffic values, by trying every centre, direction, lane set and HO lane.
+//! 01 "Lanes" and "Dynamic factor, rounding, rows", 02 "Farm bridges" and "Span by
+//! sign": the four traffic values, by trying every centre, direction, lane set and
+//! HO lane.
 
 use crate::account::{entry_number, Lane, Traffic};
 use crate::job::Job;
 use crate::lanes::{breakpoint_centres, lane_count, transverse_ordinate};
 use crate::line::longitudinal_effect;
 use crate::loads::{
-    dynamic_factor, reduction, Direction, Element, Live, Question, OVERLOAD_ELEMENT_TWENTIETHS,
-    X_OVER, X_TIMES,
+    reduction, Direction, Element, Live, Question, OVERLOAD_ELEMENT_TWENTIETHS, X_OVER, X_TIMES,
 };
 
 /// An element standing in a lane, at its furthest for a question.
@@ -182,10 +182,10 @@ pub fn lanes_of(set: u32) -> impl Iterator<Item = usize> {
     (0..u32::BITS as usize).filter(move |lane| set & (1 << lane) != 0)
 }
 
-/// 3X/800000, or the edition's share of it, rounded for its question. The sum
-/// still carries n times g.
+/// 3X/800000, or the edition's share of it, with the dynamic factor of its question
+/// and rounded for it. The sum still carries n times g.
 fn effect_in_whole_units(job: &Job, sum: i128, question: Question) -> i64 {
-    let dynamic = i128::from(dynamic_factor(job.dynamic_kind, job.dynamic_value));
+    let dynamic = i128::from(job.dynamic_factor(question));
     let n_times_g = lane_count(job.width) as i128 * i128::from(job.spacing);
     let (share, whole) = job.edition.share_of_x();
     let dividend = X_TIMES * sum * dynamic * share;

@@ -1,11 +1,11 @@
-//! 01 "Arrangements, for demand 3" and 02 "Farm bridges": hand-worked
+//! 01 "Arrangements, for demand 3", 02 "Farm bridges" and "Span by sign": hand-worked
 //! arrangements, and the rules.
 
 #![allow(clippy::single_range_in_vec_init)] // One loaded range is meant.
 
 mod common;
 
-use common::{level_job, small_farm_job, two_lane_job};
+use common::{level_job, small_farm_job, spans_job, two_lane_job};
 use second::arrangement::{Arrangement, LoadedLane};
 use second::fraction::Fraction;
 use second::job::Job;
@@ -117,13 +117,16 @@ fn an_arrangements_effect() {
     element.loaded = vec![0..2];
     let whole = arrangement(2, &[(0, element.clone())]);
     assert_eq!(whole.lawful(&job, Live::Normal), Ok(()));
-    assert_eq!(whole.effect(&job), Fraction::whole(9660));
+    assert_eq!(
+        whole.effect(&job, Question::Greatest),
+        Fraction::whole(9660)
+    );
     element.loaded = vec![1..2];
     let half = arrangement(2, &[(0, element)]);
-    assert_eq!(half.effect(&job), Fraction::whole(8190));
+    assert_eq!(half.effect(&job, Question::Greatest), Fraction::whole(8190));
     let empty = Arrangement::empty(4);
     assert_eq!(empty.lawful(&job, Live::Normal), Ok(()));
-    assert_eq!(empty.effect(&job), Fraction::ZERO);
+    assert_eq!(empty.effect(&job, Question::Greatest), Fraction::ZERO);
 }
 
 /// W 600, ordinates 1000 and 500 at the only centres. Two HN axles of 8:
@@ -139,10 +142,16 @@ fn r_is_chosen_by_the_hn_lanes() {
     let hn = standing(Element::Hn, 150);
     let normal = arrangement(1, &[(0, hn.clone()), (1, standing(Element::Hn, 450))]);
     assert_eq!(normal.lawful(&job, Live::Normal), Ok(()));
-    assert_eq!(normal.effect(&job), Fraction::whole(1_296_000));
+    assert_eq!(
+        normal.effect(&job, Question::Greatest),
+        Fraction::whole(1_296_000)
+    );
     let overload = arrangement(1, &[(0, hn), (1, standing(Element::Ho, 450))]);
     assert_eq!(overload.lawful(&job, Live::Overload), Ok(()));
-    assert_eq!(overload.effect(&job), Fraction::whole(1_920_000));
+    assert_eq!(
+        overload.effect(&job, Question::Greatest),
+        Fraction::whole(1_920_000)
+    );
 }
 
 #[test]
@@ -217,8 +226,14 @@ fn a_farm_arrangement_counts_17_twentieths() {
     let job = small_farm_job([0; 11]);
     let one = arrangement(1, &[(0, lane(Element::Hn, 0, Side::Right, 150))]);
     assert_eq!(one.lawful(&job, Live::Normal), Ok(()));
-    assert_eq!(one.effect(&job), Fraction::whole(816_000));
-    assert_eq!(Arrangement::empty(3).effect(&job), Fraction::ZERO);
+    assert_eq!(
+        one.effect(&job, Question::Greatest),
+        Fraction::whole(816_000)
+    );
+    assert_eq!(
+        Arrangement::empty(3).effect(&job, Question::Greatest),
+        Fraction::ZERO
+    );
 }
 
 /// The empty arrangement is the one of a farm job's overload; HO is in none.
@@ -236,4 +251,19 @@ fn a_farm_job_has_one_overload_arrangement() {
     let job = level_job(300, 50, vec![1000; 7]);
     assert!(Arrangement::empty(1).lawful(&job, Live::Overload).is_err());
     assert_eq!(with(Element::Ho).lawful(&job, Live::Overload), Ok(()));
+}
+
+/// 02 "Span by sign": an arrangement of any sign counts each question's factor. An axle
+/// on the piece at 8 gives 1600 * 8 * 1000 * 20 * 3 / 800000 = 960 for each thousandth,
+/// one on the piece at -8 gives -960. 122 dm are 1299, 2000 dm are 1064.
+#[test]
+fn an_arrangement_counts_the_factor_of_the_question() {
+    let job = spans_job(122, 2000);
+    for (left_axle, side, sign) in [(-1, Side::Right, 1), (2, Side::Left, -1)] {
+        let one = arrangement(1, &[(0, lane(Element::Hn, left_axle, side, 150))]);
+        for (question, factor) in [(Question::Greatest, 1299), (Question::Least, 1064)] {
+            let due = Fraction::whole(sign * 960 * factor);
+            assert_eq!(one.effect(&job, question), due);
+        }
+    }
 }

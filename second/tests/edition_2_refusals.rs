@@ -99,7 +99,7 @@ fn refusal_2_at_each_word_of_the_header() {
 fn refusal_2_at_the_lowest_place() {
     refused_with(&[(10, 1), (11, 1)], (2, 10));
     refused_with(&[(10, 0), (11, 1)], (2, 11));
-    for (place, word) in [(1, 3), (2, 21), (3, 9), (4, 299), (5, 4), (6, 1)] {
+    for (place, word) in [(1, 3), (2, 21), (3, 9), (4, 299), (5, 5), (6, 1)] {
         refused_with(&[(place, word), (10, 1), (11, 1)], (2, place as u64));
     }
     for (place, word) in [(7, 17), (8, 0), (9, 513)] {
@@ -108,11 +108,11 @@ fn refusal_2_at_the_lowest_place() {
     }
 }
 
-/// The kinds of dynamic factor with their values are edition 1's.
+/// Kinds 1 to 3 of dynamic factor with their values are edition 1's; kind 4 is in
+/// spans_refusals.rs.
 #[test]
 fn dynamic_kinds_and_values() {
     refusals::dynamic_kinds_and_values(&SOUND);
-    refused_with(&[(5, 4), (6, 120), (10, 120)], (2, 5));
 }
 
 /// 2 comes before everything of a higher number.

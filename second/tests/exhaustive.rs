@@ -4,7 +4,7 @@
 mod common;
 
 use common::farm_tables::{FIRST_ULTIMATE_ROW, K, LIVE, ROWS};
-use common::{definition, level_job, pieces, small_farm_job};
+use common::{definition, level_job, pieces, small_farm_job, spans_job};
 use second::arrangement::{Arrangement, LoadedLane};
 use second::job::Job;
 use second::loads::{Element, Live, Question, Side};
@@ -73,9 +73,9 @@ impl Furthest {
 
     fn take(&mut self, job: &Job, arrangement: &Arrangement) {
         assert_eq!(arrangement.lawful(job, self.live), Ok(()));
-        let effect = arrangement.effect(job);
-        self.greatest = self.greatest.max(effect.round(Question::Greatest));
-        self.least = self.least.min(effect.round(Question::Least));
+        let effect = |question| arrangement.effect(job, question).round(question);
+        self.greatest = self.greatest.max(effect(Question::Greatest));
+        self.least = self.least.min(effect(Question::Least));
     }
 
     /// The solver reports it, and the definitions make it due.
@@ -117,21 +117,41 @@ fn one_lane() {
             let mut job = level_job(303, spacing, transverse.collect());
             job.pieces = line.clone();
             (job.dynamic_kind, job.dynamic_value) = (1, 1111);
-            for k in [1, 2, 3] {
-                let mut normal = Furthest::new(Live::Normal);
-                let mut overload = Furthest::new(Live::Overload);
-                let mut arrangement = Arrangement::empty(k);
-                normal.take(&job, &arrangement);
-                for element in every_element(&job, k, 150 * k..=153 * k, k) {
-                    arrangement.lanes[0] = Some(as_ho(&element));
-                    overload.take(&job, &arrangement);
-                    arrangement.lanes[0] = Some(element);
-                    normal.take(&job, &arrangement);
-                }
-                normal.is_reported(&job);
-                overload.is_reported(&job);
-            }
+            one_lane_is_reported(&job, &[1, 2, 3]);
         }
+    }
+}
+
+/// As `one_lane`, with a span for each question: the one far longer, or just past
+/// where the factor begins to fall, and the other way round.
+#[test]
+fn one_lane_with_spans() {
+    for line in lines() {
+        for (greatest, least) in [(90, 1800), (1800, 90), (121, 122), (122, 121)] {
+            let across = (0..9).map(|at| [7, -9, 4][at % 3] * 100 + 3);
+            let mut job = spans_job(greatest, least);
+            (job.width, job.spacing, job.pieces) = (303, 38, line.clone());
+            job.transverse = across.collect();
+            one_lane_is_reported(&job, &[1, 2]);
+        }
+    }
+}
+
+/// The furthest of every arrangement in a lane of 303 cm is reported.
+fn one_lane_is_reported(job: &Job, ks: &[i128]) {
+    for &k in ks {
+        let mut normal = Furthest::new(Live::Normal);
+        let mut overload = Furthest::new(Live::Overload);
+        let mut arrangement = Arrangement::empty(k);
+        normal.take(job, &arrangement);
+        for element in every_element(job, k, 150 * k..=153 * k, k) {
+            arrangement.lanes[0] = Some(as_ho(&element));
+            overload.take(job, &arrangement);
+            arrangement.lanes[0] = Some(element);
+            normal.take(job, &arrangement);
+        }
+        normal.is_reported(job);
+        overload.is_reported(job);
     }
 }
 

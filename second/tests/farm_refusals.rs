@@ -98,6 +98,8 @@ fn refusal_2_at_the_lowest_place() {
 #[test]
 fn dynamic_kinds_and_values() {
     refusals::dynamic_kinds_and_values(&SOUND);
+    refusals::no_spans_by_sign(&SOUND);
+    refused_with(&[(5, 4), (6, 120), (10, 120)], (2, 5));
 }
 
 /// Each width of note with each barriers: 0 where it is accepted.

@@ -101,6 +101,7 @@ fn refusal_2_at_word_6_by_the_kind_in_word_5() {
     for word in [-1, 0, 1000, 6000] {
         refused_with(&[(5, 4), (6, word)], (2, 5));
     }
+    refusals::no_spans_by_sign(&SOUND);
     for (kind, value) in [(1, 1000), (1, 1300), (2, 0), (3, 0), (3, 5000)] {
         accepted_with(&SOUND, &[(5, kind), (6, value)]);
     }

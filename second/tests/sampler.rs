@@ -15,7 +15,7 @@ use second::lanes::{breakpoint_centres, centre_limits, lane_count, transverse_or
 use second::line::{
     ordinate, pair_ordinates, pieces_between_axles, stations, uniform_effect, Stand,
 };
-use second::loads::{dynamic_factor, reduction, Direction, Element, Live, Question, Side};
+use second::loads::{reduction, Direction, Element, Live, Question, Side};
 use second::rng::Rng;
 use second::sampler::{first_beating, Beating, Sampler};
 use second::solve::account_of;
@@ -128,7 +128,9 @@ fn a_beating_names_its_arrangement() {
         panic!("{beating:?}");
     };
     assert_eq!(arrangement.lawful(&job, Live::Normal), Ok(()));
-    assert_eq!(arrangement.effect(&job).round(Question::Greatest), effect);
+    let question = Question::Greatest;
+    let given = arrangement.effect(&job, question).round(question);
+    assert_eq!(given, effect);
     assert!((10_237_501..=10_319_400).contains(&effect));
 }
 
@@ -282,7 +284,7 @@ fn sham_value(job: &Job, sham: Sham, live: Live, question: Question) -> i64 {
             )
         }
     };
-    let dynamic = dynamic_factor(job.dynamic_kind, job.dynamic_value);
+    let dynamic = job.dynamic_factor(question);
     let n_times_g = lanes as i128 * i128::from(job.spacing);
     let twentieths = match job.edition {
         Edition::Four => 17,

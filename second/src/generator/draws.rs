@@ -1,6 +1,7 @@
 //! Draws that all streams share.
 
 use crate::rng::Rng;
+use std::ops::RangeInclusive;
 
 pub(super) fn sign(rng: &mut Rng) -> i64 {
     rng.pick(&[-1, 1])
@@ -24,6 +25,11 @@ pub(super) fn sufficient_patch(rng: &mut Rng, pieces: usize) -> Vec<u8> {
 
 pub(super) fn any_bytes(rng: &mut Rng, length: usize) -> Vec<u8> {
     (0..length).map(|_| rng.number() as u8).collect()
+}
+
+/// A number outside a range, as `outside` has it.
+pub(super) fn outside_limits(rng: &mut Rng, limits: &RangeInclusive<i32>) -> i32 {
+    outside(rng, *limits.start(), *limits.end())
 }
 
 /// A number just outside limits or far from them.

@@ -1,11 +1,11 @@
 //! Makes faults in a job's words: a word outside its limits, or words too few
 //! or too many.
 
-use super::draws::{first_last_or_any, outside};
+use super::draws::{first_last_or_any, outside, outside_limits};
 use super::edition_2::spoil_a_wide_effect;
 use super::line::LONGEST_LINE;
 use crate::edition::Edition;
-use crate::refusals::later_header_word_limits;
+use crate::refusals::{dynamic_value_limits, later_header_word_limits};
 use crate::rng::Rng;
 use crate::sections::{self, Sections, WORDS_PER_RECORD, WORDS_PER_ROW};
 
@@ -100,6 +100,7 @@ fn counting_words(edition: Edition) -> &'static [(usize, i64, i64)] {
 
 pub(super) fn spoil_a_header_word(rng: &mut Rng, words: &mut [i32], edition: Edition) {
     let place = 1 + rng.index(edition.header_words() - 1);
+    let dynamic_kind = words[sections::DYNAMIC_KIND].into();
     words[place] = match place {
         sections::PIECE_LENGTH => rng.pick(&[0, -1, 3, 4, 6, 24, 26, 49, 51, i32::MIN, i32::MAX]),
         sections::PIECES => {
@@ -110,24 +111,20 @@ pub(super) fn spoil_a_header_word(rng: &mut Rng, words: &mut [i32], edition: Edi
         sections::SPACING => outside(rng, 10, 50),
         sections::WIDTH => outside(rng, 300, 2079),
         sections::DYNAMIC_KIND => outside(rng, 1, 3),
-        sections::DYNAMIC_VALUE => match words[sections::DYNAMIC_KIND] {
-            1 => outside(rng, 1000, 1300),
-            2 => outside(rng, 0, 0),
-            _ => outside(rng, 0, 5000),
-        },
-        _ => outside_later_limits(rng, place, edition),
+        sections::DYNAMIC_VALUE => outside_limits(rng, &dynamic_value_limits(dynamic_kind)),
+        _ => outside_later_limits(rng, place, edition, dynamic_kind),
     };
 }
 
 /// What spoils a header word from the number of effects on: in a farm job often
 /// one that edition 1 has there, or -1 for the barriers.
-fn outside_later_limits(rng: &mut Rng, place: usize, edition: Edition) -> i32 {
-    let limits = later_header_word_limits(place, edition);
-    let outside = outside(rng, *limits.start(), *limits.end());
+fn outside_later_limits(rng: &mut Rng, place: usize, edition: Edition, dynamic_kind: i64) -> i32 {
+    let limits = later_header_word_limits(place, edition, dynamic_kind);
+    let outside = outside_limits(rng, &limits);
     if edition != Edition::Four {
         return outside;
     }
-    let of_edition_1 = later_header_word_limits(place, Edition::One);
+    let of_edition_1 = later_header_word_limits(place, Edition::One, dynamic_kind);
     let (from, to) = (*of_edition_1.start(), *of_edition_1.end());
     let any = rng.between(from.into(), to.into()) as i32;
     let tried = rng.pick(&[outside, outside, any, from, -1]);

@@ -1,5 +1,5 @@
-//! What 01, 02 "Farm bridges" and "Effects past a word" make due for a job, by
-//! trying everything that they name: every station and side, every centre in n-ths of a cm, every lane
+//! What 01, 02 "Farm bridges", "Effects past a word" and "Span by sign" make due for
+//! a job, by trying everything that they name: every station and side, every centre in n-ths of a cm, every lane
 //! set and HO lane, every row with every k and every omission. Of the crate only the shape of an answer is
 //! used, so a slip in the solver, or in what the solver and the checker share,
 //! shows beside it.
@@ -105,6 +105,11 @@ fn is_farm_job(header: &[i64]) -> bool {
     header[0] == 4
 }
 
+/// Kind 4, which edition 2 alone has.
+fn has_spans(header: &[i64]) -> bool {
+    (header[0], header[5]) == (2, 4)
+}
+
 /// Words of an effect's value.
 fn value_words(header: &[i64]) -> usize {
     1 + usize::from(header[0] == 2)
@@ -208,8 +213,10 @@ fn header_word_is_lawful(words: &[i64], place: usize) -> bool {
         2 => (1, 1000),
         3 => (10, 50),
         4 => (300, 2079),
+        5 if words[0] == 2 => (1, 4),
         5 => (1, 3),
-        6 => [(1000, 1300), (0, 0), (0, 5000)][words[5] as usize - 1],
+        6 => [(1000, 1300), (0, 0), (0, 5000), (1, 2000)][words[5] as usize - 1],
+        10 if has_spans(words) => (1, 2000),
         7 if is_farm_job(words) => (11, 11),
         8 | 9 if is_farm_job(words) => (0, 0),
         7 => (0, 16),
@@ -273,12 +280,7 @@ const R: [i64; 6] = [0, 20, 18, 16, 14, 12];
 /// Normal and overload, over every lane set and every HO lane in it; a farm job
 /// has 0.85 HN and no HO.
 fn traffic(job: &Parts) -> [Furthest; 2] {
-    let [kind, value] = [job.header[5], job.header[6]];
-    let dynamic = match kind {
-        1 => value,
-        2 => 1000,
-        _ => i64::max(1000, 1300 - 3 * value),
-    };
+    let [dynamic_greatest, dynamic_least] = dynamic_factors(job.header);
     let n = lanes(job);
     let pair_sums = pair_sums(job);
     let in_lanes = |axle: i64| -> Vec<Furthest> {
@@ -291,8 +293,11 @@ fn traffic(job: &Parts) -> [Furthest; 2] {
     // What stands in a lane carries n times g from its transverse ordinate.
     let over = i128::from(20 * 800_000 * n * job.header[3]);
     let effect = |twentieths: Furthest| {
-        let [greatest, least] = [twentieths.greatest, twentieths.least]
-            .map(|sum| 3 * twentieths_of_x * i128::from(sum) * i128::from(dynamic));
+        let [greatest, least] = [
+            (twentieths.greatest, dynamic_greatest),
+            (twentieths.least, dynamic_least),
+        ]
+        .map(|(sum, dynamic)| 3 * twentieths_of_x * i128::from(sum) * i128::from(dynamic));
         let up = greatest / over + i128::from(greatest % over > 0);
         let down = least / over - i128::from(least % over < 0);
         Furthest {
@@ -333,6 +338,28 @@ fn traffic(job: &Parts) -> [Furthest; 2] {
         }
     }
     [normal, overload]
+}
+
+/// The dynamic factors for greatest and for least, in thousandths.
+fn dynamic_factors(header: &[i64]) -> [i64; 2] {
+    let [kind, value] = [header[5], header[6]];
+    match kind {
+        1 => [value; 2],
+        2 => [1000; 2],
+        3 => [i64::max(1000, 1300 - 3 * value); 2],
+        _ => [value, header[10]].map(factor_by_counting),
+    }
+}
+
+/// The lowest whole number of thousandths that 1 + 15/(L + 38) does not pass, L in
+/// metres; but 1300 to 12 m. What is over 1 counts L + 38 times, in tenths of a metre
+/// and thousandths.
+fn factor_by_counting(decimetres: i64) -> i64 {
+    let enough = |thousandths: &i64| (thousandths - 1000) * (decimetres + 10 * 38) >= 15 * 10_000;
+    match decimetres {
+        ..=120 => 1300,
+        _ => (1000..).find(enough).expect("a number large enough"),
+    }
 }
 
 fn lanes(job: &Parts) -> i64 {

@@ -89,7 +89,7 @@ pub const HEADER_FAULTS: [WordFaults; 6] = [
     (2, &[0, 21, -1, 1001, i32::MAX]),
     (3, &[9, 51, -10, i32::MIN]),
     (4, &[299, 2080, 0, -300, i32::MIN, i32::MAX]),
-    (5, &[0, 4, -1, i32::MAX]),
+    (5, &[0, 5, -1, i32::MAX]),
     (6, &[1, -1, i32::MIN]),
 ];
 
@@ -107,7 +107,20 @@ pub const LARGEST: [Change; 7] = [
     (9, 512),
 ];
 
-/// The kinds of dynamic factor with their values.
+/// Kind 4 is edition 2's alone, whatever word 6 is.
+#[track_caller]
+pub fn no_spans_by_sign(sound: &[i32]) {
+    for value in [1, 120, 121, 1000, 2000, 0, -1, 2001, i32::MIN, i32::MAX] {
+        let spans = [(5, 4), (6, value)];
+        refused_with(sound, &spans, (2, 5));
+        let with = |other: Change| [spans[0], spans[1], other];
+        refused_with(sound, &with((4, 299)), (2, 4));
+        refused_with(sound, &with((7, -1)), (2, 5));
+        refused_with(sound, &with((9, 513)), (2, 5));
+    }
+}
+
+/// The kinds 1 to 3 of dynamic factor with their values.
 #[track_caller]
 pub fn dynamic_kinds_and_values(sound: &[i32]) {
     for (kind, value) in [(1, 1000), (1, 1300), (2, 0), (3, 0), (3, 5000)] {
