@@ -8,7 +8,7 @@ mod edition_2;
 mod farm;
 
 use crate::edition::Edition;
-use crate::generator::Case;
+use crate::generator::{Case, Stream};
 use crate::job::{Effect, Job, Piece, Record, Row, MAY_BE_LEFT_OUT};
 use crate::job_a::job_a;
 use crate::sections::{
@@ -99,17 +99,17 @@ pub const PAST_LIMITS: [&[Change]; 51] = [
     &[(RECORD + 2, i32::MAX)],
 ];
 
-/// An edition's chosen cases, in the order in which they are stored.
-pub fn cases(edition: Edition) -> impl Iterator<Item = Case> {
-    let cases: Vec<Case> = match edition {
-        Edition::One => {
+/// The chosen cases that go with a stream, in the order in which they are stored.
+pub fn cases(stream: Stream) -> impl Iterator<Item = Case> {
+    let cases: Vec<Case> = match stream {
+        Stream::One => {
             let built = BUILDERS.into_iter().map(|build| build());
             built
                 .chain(PAST_LIMITS.into_iter().map(changed_job_a))
                 .collect()
         }
-        Edition::Two => edition_2::cases(),
-        Edition::Four => farm::cases(),
+        Stream::Two => edition_2::cases(),
+        Stream::Four => farm::cases(),
     };
     cases.into_iter()
 }

@@ -28,7 +28,7 @@ impl Edition {
     }
 
     /// The edition of a number; none where it is not admitted.
-    pub fn of_number(number: i32) -> Option<Edition> {
+    fn of_number(number: i32) -> Option<Edition> {
         Edition::ALL
             .into_iter()
             .find(|edition| edition.number() == number)

@@ -1,7 +1,6 @@
 //! Generates jobs from a seed: sound ones of every shape, damaged ones for
-//! every refusal, and plain bytes. Each edition has a stream of its own, in
-//! which a seed gives the same case always, whatever other editions bring. The
-//! trains have one too.
+//! every refusal, and plain bytes. Each edition has a stream of its own, and so do
+//! the trains.
 
 mod damage;
 mod draws;
@@ -11,12 +10,13 @@ mod edition_4;
 mod header;
 mod line;
 mod plain;
+mod stream;
 pub mod train;
 mod transverse;
 mod word_faults;
 
-pub use crate::edition::Edition;
 pub use damage::{damaged, faults_of};
+pub use stream::Stream;
 
 use crate::job::Job;
 use crate::rng::Rng;
@@ -29,29 +29,29 @@ pub struct Case {
     pub patch: Vec<u8>,
 }
 
-/// The case of a seed in an edition's stream: about two in three sound, one in
-/// four damaged, the rest plain bytes.
-pub fn case(edition: Edition, seed: u64) -> Case {
+/// The case of a seed in a stream: about two in three sound, one in four damaged,
+/// the rest plain bytes.
+pub fn case(stream: Stream, seed: u64) -> Case {
     let mut rng = Rng::new(seed);
     match rng.below(20) {
         0..=12 => {
-            let job = sound_job(&mut rng, edition);
+            let job = sound_job(&mut rng, stream);
             let patch = sufficient_patch(&mut rng, job.pieces.len());
             Case {
                 job: job.bytes(),
                 patch,
             }
         }
-        13..=17 => damage::damaged_case(&mut rng, edition),
-        _ => plain::plain_bytes(&mut rng, edition),
+        13..=17 => damage::damaged_case(&mut rng, stream),
+        _ => plain::plain_bytes(&mut rng, stream),
     }
 }
 
 /// A job that no refusal is due for, given a long enough patch buffer.
-pub fn sound_job(rng: &mut Rng, edition: Edition) -> Job {
-    match edition {
-        Edition::One => edition_1::sound_job(rng),
-        Edition::Two => edition_2::sound_job(rng),
-        Edition::Four => edition_4::sound_job(rng),
+pub fn sound_job(rng: &mut Rng, stream: Stream) -> Job {
+    match stream {
+        Stream::One => edition_1::sound_job(rng),
+        Stream::Two => edition_2::sound_job(rng),
+        Stream::Four => edition_4::sound_job(rng),
     }
 }

@@ -2,7 +2,7 @@
 //! its four lines, or `refused NUMBER at PLACE`. Further commands are in USAGE,
 //! among them 02 "Rating trucks".
 
-use second::generator::{self, Edition};
+use second::generator::{self, Stream};
 use second::job::Job;
 use second::lanes::lane_count;
 use second::train::page::{page, truck_line};
@@ -27,10 +27,10 @@ const USAGE: &str = "usage:
                                    section, or the refusal
   second truck-line                write the truck line's section to standard
                                    output; its H is 2
-  second generate EDITION SEED COUNT DIR
-                                   write COUNT cases of EDITION's stream from
-                                   SEED on into DIR, as SEED.job and SEED.patch;
-                                   EDITION is 1, 2 or 4
+  second generate STREAM SEED COUNT DIR
+                                   write COUNT cases of STREAM from SEED on into
+                                   DIR, as SEED.job and SEED.patch; STREAM is 1, 2
+                                   or 4, as its edition
   second store DIR                 write the cases to store into DIR/jobs, and
                                    what is due for each into DIR/expected
 ";
@@ -84,8 +84,8 @@ fn run(arguments: &[&str]) -> Result<(), Failure> {
         ["arch-job"] => write_out(&arch_job::arch_job().bytes()),
         ["train", h, mode, axles @ ..] => train(number(h)?, number(mode)?, axles),
         ["truck-line"] => write_out(&line::section_bytes(&truck_line())),
-        ["generate", edition, seed, count, directory] => generate(
-            edition_of(edition)?,
+        ["generate", stream, seed, count, directory] => generate(
+            Stream::of_name(stream).ok_or(Failure::Usage)?,
             number(seed)?,
             number(count)?,
             Path::new(directory),
@@ -97,11 +97,6 @@ fn run(arguments: &[&str]) -> Result<(), Failure> {
 
 fn number(argument: &str) -> Result<u64, Failure> {
     argument.parse().map_err(|_| Failure::Usage)
-}
-
-fn edition_of(argument: &str) -> Result<Edition, Failure> {
-    let number = argument.parse().ok();
-    number.and_then(Edition::of_number).ok_or(Failure::Usage)
 }
 
 fn account() -> Result<(), Failure> {
@@ -152,10 +147,10 @@ fn axle(argument: &str) -> Result<Axle, Failure> {
     })
 }
 
-fn generate(edition: Edition, first: u64, count: u64, directory: &Path) -> Result<(), Failure> {
+fn generate(stream: Stream, first: u64, count: u64, directory: &Path) -> Result<(), Failure> {
     let past_last = first.checked_add(count).ok_or(Failure::Usage)?;
     for seed in first..past_last {
-        let case = generator::case(edition, seed);
+        let case = generator::case(stream, seed);
         for (ending, bytes) in [("job", &case.job), ("patch", &case.patch)] {
             write_file(&directory.join(format!("{seed}.{ending}")), bytes)?;
         }

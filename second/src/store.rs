@@ -1,7 +1,7 @@
 //! Cases in one file, and in another what is due for each.
 
 use crate::chosen;
-use crate::generator::{self, Case, Edition};
+use crate::generator::{self, Case, Stream};
 use crate::report::report;
 use crate::solve::solve;
 
@@ -24,18 +24,18 @@ pub fn stored() -> Stored {
     stored
 }
 
-/// The cases to store: the generated ones, then those chosen by hand, edition by
-/// edition.
+/// The cases to store: the generated ones, then those chosen by hand, stream by
+/// stream.
 pub fn cases() -> impl Iterator<Item = Case> {
-    let of_edition = |edition| generated_cases(edition).chain(chosen::cases(edition));
-    Edition::ALL.into_iter().flat_map(of_edition)
+    let of_stream = |stream| generated_cases(stream).chain(chosen::cases(stream));
+    Stream::ALL.into_iter().flat_map(of_stream)
 }
 
-/// How many of an edition's cases are stored.
-fn cases_of(edition: Edition) -> usize {
-    match edition {
-        Edition::One => 1700,
-        Edition::Two | Edition::Four => 400,
+/// How many of a stream's cases are stored.
+fn cases_of(stream: Stream) -> usize {
+    match stream {
+        Stream::One => 1700,
+        Stream::Two | Stream::Four => 400,
     }
 }
 
@@ -45,15 +45,15 @@ const SHORT_CASE_BYTES: usize = 400;
 /// Of the seeds of longer cases, one in so many is stored.
 const LONG_CASE_SEEDS: u64 = 32;
 
-/// An edition's first cases from seed 0 on: every short one and few of the
-/// others, so that many fit in a small file.
-pub fn generated_cases(edition: Edition) -> impl Iterator<Item = Case> {
+/// A stream's first cases from seed 0 on: every short one and few of the others,
+/// so that many fit in a small file.
+pub fn generated_cases(stream: Stream) -> impl Iterator<Item = Case> {
     let to_store = move |seed: u64| {
-        let case = generator::case(edition, seed);
+        let case = generator::case(stream, seed);
         let short = case.job.len() + case.patch.len() <= SHORT_CASE_BYTES;
         (short || seed.is_multiple_of(LONG_CASE_SEEDS)).then_some(case)
     };
-    (0..).filter_map(to_store).take(cases_of(edition))
+    (0..).filter_map(to_store).take(cases_of(stream))
 }
 
 /// The job's length and the patch buffer's, in two bytes each, low byte first;

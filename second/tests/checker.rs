@@ -6,7 +6,7 @@ mod common;
 use common::call::{refuses, takes, Call, Change};
 use common::{definition, level_job, pieces, two_lane_job};
 use second::account::{Lane, State};
-use second::generator::{case, Edition};
+use second::generator::{case, Stream};
 use second::job_a::job_a;
 use second::{store, Answer};
 
@@ -15,7 +15,7 @@ use second::{store, Answer};
 #[test]
 fn right_answers_to_generated_and_stored_cases_pass() {
     let seeds = 0..2000;
-    let generated = seeds.flat_map(|seed| Edition::ALL.map(|edition| case(edition, seed)));
+    let generated = seeds.flat_map(|seed| Stream::ALL.map(|stream| case(stream, seed)));
     for (number, case) in generated.chain(store::cases()).enumerate() {
         let mut call = Call::new(&case.job, &case.patch);
         (call.answer, call.after) = definition::due(&case.job, &case.patch, &call.answer);
@@ -483,7 +483,7 @@ fn equally_good_omissions_are_free() {
 #[test]
 fn no_changed_value_or_row_passes() {
     for seed in 0..1500 {
-        let case = case(Edition::ALL[seed as usize % 3], seed / 3);
+        let case = case(Stream::ALL[seed as usize % 3], seed / 3);
         let call = Call::new(&case.job, &case.patch);
         let changes: [Change; 12] = [
             |call| call.answer.account.normal_greatest.value -= 1,

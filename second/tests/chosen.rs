@@ -2,13 +2,14 @@
 
 use second::chosen::{self, PAST_LIMITS};
 use second::edition::Edition;
+use second::generator::Stream;
 use second::solve;
 
 /// Job A's rows follow 10 words, 40 ordinates, 19 transverse ones and, here,
 /// sixteen effects: they start at word 101.
 #[test]
 fn their_lengths_and_answers() {
-    let reached = chosen::cases(Edition::One).map(|mut case| {
+    let reached = chosen::cases(Stream::One).map(|mut case| {
         let answer = solve(&case.job, &mut case.patch);
         (case.job.len(), answer.refusal, answer.place)
     });
@@ -24,7 +25,7 @@ fn their_lengths_and_answers() {
 /// Edition 2's last two: every section as long as it may be, and a word more.
 #[test]
 fn the_most_words_of_edition_2() {
-    let reached: Vec<_> = chosen::cases(Edition::Two)
+    let reached: Vec<_> = chosen::cases(Stream::Two)
         .map(|mut case| {
             let answer = solve(&case.job, &mut case.patch);
             (case.job.len(), answer.refusal, answer.place)
@@ -46,7 +47,7 @@ fn dividends_next_to_32_bits() {
         (37, 3 * 1117 * overload),
     ];
     for (number, (mut case, (g, dividend))) in
-        (0..).zip(chosen::cases(Edition::One).skip(4).zip(due))
+        (0..).zip(chosen::cases(Stream::One).skip(4).zip(due))
     {
         let account = solve(&case.job, &mut case.patch).account;
         let value = [&account.normal_greatest, &account.overload_greatest][number / 2].value;
@@ -59,10 +60,10 @@ fn dividends_next_to_32_bits() {
 /// A word past its limit is refused at its place.
 #[test]
 fn past_a_limit_the_word_is_refused() {
-    let before = chosen::cases(Edition::One).count() - PAST_LIMITS.len();
+    let before = chosen::cases(Stream::One).count() - PAST_LIMITS.len();
     for (changes, mut case) in PAST_LIMITS
         .iter()
-        .zip(chosen::cases(Edition::One).skip(before))
+        .zip(chosen::cases(Stream::One).skip(before))
     {
         let (place, word) = changes[changes.len() - 1];
         let answer = solve(&case.job, &mut case.patch);
@@ -82,11 +83,11 @@ fn past_a_limit_the_word_is_refused() {
 /// A case stored twice tells nothing new.
 #[test]
 fn none_is_stored_twice() {
-    for edition in Edition::ALL {
-        let generated: Vec<_> = second::store::generated_cases(edition).collect();
-        let chosen: Vec<_> = chosen::cases(edition).collect();
+    for stream in Stream::ALL {
+        let generated: Vec<_> = second::store::generated_cases(stream).collect();
+        let chosen: Vec<_> = chosen::cases(stream).collect();
         for (number, case) in chosen.iter().enumerate() {
-            let name = format!("{edition:?}, chosen case {number}");
+            let name = format!("{stream:?}, chosen case {number}");
             assert!(!generated.contains(case), "{name}");
             assert!(!chosen[..number].contains(case), "{name}");
         }

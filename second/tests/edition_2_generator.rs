@@ -8,7 +8,8 @@ use common::streams::{
     sum_of_cases, Faults, REFUSALS_IN_EVERY_EDITION,
 };
 use second::account::{Account, State};
-use second::generator::{case, Case, Edition};
+use second::edition::Edition;
+use second::generator::{case, Case, Stream};
 use second::job::Job;
 use second::loads::Question;
 use second::sections::Sections;
@@ -276,19 +277,19 @@ fn expected_outcomes() -> Vec<String> {
 
 #[test]
 fn every_refusal_value_and_outcome_is_reached() {
-    let cases = (0..CASES).map(|seed| case(Edition::Two, seed));
+    let cases = (0..CASES).map(|seed| case(Stream::Two, seed));
     reach_all(cases, labels, expected_labels());
 }
 
 #[test]
 fn the_stored_cases_reach_every_refusal_value_and_outcome() {
-    let generated = store::generated_cases(Edition::Two);
-    let cases = generated.chain(chosen::cases(Edition::Two));
+    let generated = store::generated_cases(Stream::Two);
+    let cases = generated.chain(chosen::cases(Stream::Two));
     reach_all(cases, labels, expected_labels());
 }
 
 const FAULTS: Faults = Faults {
-    edition: Edition::Two,
+    stream: Stream::Two,
     order: &[1, 2, 3, 4, 5, 6, 7, 8, 9],
     admitted_since: &[],
     least_of_3: 180,
@@ -305,8 +306,8 @@ fn two_faults_give_the_lower_refusal() {
     FAULTS.two_give_the_first_refusal();
 }
 
-/// A seed's case is fixed, whatever other editions bring.
+/// A seed's case is fixed, whatever other streams bring.
 #[test]
 fn the_cases_of_edition_2_never_change() {
-    assert_eq!(sum_of_cases(Edition::Two), 15_329_208_469_268_208_468);
+    assert_eq!(sum_of_cases(Stream::Two), 15_329_208_469_268_208_468);
 }

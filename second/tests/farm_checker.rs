@@ -7,14 +7,14 @@ use common::call::{refuses, takes, Call};
 use common::{definition, pieces, small_farm_job};
 use second::account::Lane;
 use second::farm_job::farm_job;
-use second::generator::{case, Edition};
+use second::generator::{case, Stream};
 
 /// What is due by the definitions alone passes, with the solver's placements and
 /// omissions, and is what the solver gives.
 #[test]
 fn right_answers_to_generated_cases_pass() {
     for seed in 0..6000 {
-        let case = case(Edition::Four, seed);
+        let case = case(Stream::Four, seed);
         let call = Call::new(&case.job, &case.patch);
         let due = definition::due(&case.job, &case.patch, &call.answer);
         assert_eq!((call.answer, call.after.clone()), due, "seed {seed}");

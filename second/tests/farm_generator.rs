@@ -9,8 +9,9 @@ use common::streams::{
 };
 use second::account::{Account, Governing};
 use second::combination::Part;
+use second::edition::Edition;
 use second::farm;
-use second::generator::{case, Case, Edition};
+use second::generator::{case, Case, Stream};
 use second::job::Job;
 use second::line::patch_byte;
 use second::loads::Question;
@@ -312,19 +313,19 @@ fn expected_outcomes() -> Vec<String> {
 
 #[test]
 fn every_refusal_row_and_shape_is_reached() {
-    let cases = (0..CASES).map(|seed| case(Edition::Four, seed));
+    let cases = (0..CASES).map(|seed| case(Stream::Four, seed));
     reach_all(cases, labels, expected_labels());
 }
 
 #[test]
 fn the_stored_cases_reach_every_refusal_row_and_shape() {
-    let generated = store::generated_cases(Edition::Four);
-    let cases = generated.chain(chosen::cases(Edition::Four));
+    let generated = store::generated_cases(Stream::Four);
+    let cases = generated.chain(chosen::cases(Stream::Four));
     reach_all(cases, labels, expected_labels());
 }
 
 const FAULTS: Faults = Faults {
-    edition: Edition::Four,
+    stream: Stream::Four,
     order: &[1, 2, 11, 3, 4, 5, 6, 9],
     admitted_since: &[Edition::Two],
     least_of_3: 170,
@@ -341,8 +342,8 @@ fn two_faults_give_the_first_refusal() {
     FAULTS.two_give_the_first_refusal();
 }
 
-/// A seed's case is fixed, whatever other editions bring.
+/// A seed's case is fixed, whatever other streams bring.
 #[test]
 fn the_cases_of_edition_4_never_change() {
-    assert_eq!(sum_of_cases(Edition::Four), 13_955_522_561_190_928_816);
+    assert_eq!(sum_of_cases(Stream::Four), 13_955_522_561_190_928_816);
 }

@@ -5,7 +5,8 @@ mod common;
 
 use common::streams::{answer_to, reach_all, section_labels, shape_labels, sum_of_cases, Faults};
 use second::account::Account;
-use second::generator::{case, Case, Edition};
+use second::edition::Edition;
+use second::generator::{case, Case, Stream};
 use second::job::Job;
 use second::lanes::lane_count;
 use second::line::{pair_ordinates, patch_byte, pieces_between_axles, stations, Stand};
@@ -418,18 +419,18 @@ fn expected_labels() -> BTreeSet<String> {
 
 #[test]
 fn the_cases_reach_every_refusal_and_shape() {
-    let cases = (0..CASES).map(|seed| case(Edition::One, seed));
+    let cases = (0..CASES).map(|seed| case(Stream::One, seed));
     reach_all(cases, labels, expected_labels());
 }
 
 #[test]
 fn the_stored_cases_reach_every_refusal_and_shape() {
-    let cases = store::generated_cases(Edition::One);
+    let cases = store::generated_cases(Stream::One);
     reach_all(cases, labels, expected_labels());
 }
 
 const FAULTS: Faults = Faults {
-    edition: Edition::One,
+    stream: Stream::One,
     order: &[1, 2, 3, 4, 5, 6, 7, 8, 9],
     admitted_since: &[Edition::Two],
     least_of_3: 180,
@@ -446,8 +447,8 @@ fn two_faults_give_the_lower_refusal() {
     FAULTS.two_give_the_first_refusal();
 }
 
-/// A seed's case is fixed, whatever other editions bring.
+/// A seed's case is fixed, whatever other streams bring.
 #[test]
 fn the_cases_of_edition_1_never_change() {
-    assert_eq!(sum_of_cases(Edition::One), 3_699_499_953_521_068_672);
+    assert_eq!(sum_of_cases(Stream::One), 3_699_499_953_521_068_672);
 }

@@ -1,6 +1,6 @@
 //! 01 "The host and the program", 02 "Rating trucks": the program as a whole.
 
-use second::generator::{case, Edition};
+use second::generator::{case, Stream};
 use std::fs::{self, File};
 use std::path::PathBuf;
 use std::process::{Command, Output, Stdio};
@@ -261,15 +261,12 @@ fn beat_says_that_job_a_is_not_beaten() {
 fn generate_writes_the_cases_of_its_seeds() {
     let directory = scratch("generated");
     fs::create_dir_all(&directory).unwrap();
-    for edition in Edition::ALL {
-        let number = edition.number().to_string();
-        let output = second(
-            &["generate", &number, "7", "3", directory.to_str().unwrap()],
-            Stdio::null(),
-        );
-        prints(&output, "");
+    for stream in Stream::ALL {
+        let into = directory.to_str().unwrap();
+        let arguments = ["generate", stream.name(), "7", "3", into];
+        prints(&second(&arguments, Stdio::null()), "");
         for seed in 7..10 {
-            let case = case(edition, seed);
+            let case = case(stream, seed);
             let file = |ending: &str| fs::read(directory.join(format!("{seed}.{ending}"))).unwrap();
             assert_eq!((file("job"), file("patch")), (case.job, case.patch));
         }

@@ -7,8 +7,9 @@ use common::{level_job, pieces, two_lane_job};
 use second::account::{Account, State};
 use second::arch_job::arch_job;
 use second::combination::{Combination, Part};
+use second::edition::Edition;
 use second::farm_job::farm_job;
-use second::generator::{sound_job, Edition};
+use second::generator::{sound_job, Stream};
 use second::job::Job;
 use second::job_a::job_a;
 use second::lanes::{breakpoint_centres, centre_limits, lane_count, transverse_ordinate};
@@ -22,13 +23,13 @@ use second::solve::account_of;
 use second::traffic::lanes_of;
 
 /// The others half as often as edition 1.
-const EDITIONS: [Edition; 4] = [Edition::One, Edition::One, Edition::Four, Edition::Two];
+const STREAMS: [Stream; 4] = [Stream::One, Stream::One, Stream::Four, Stream::Two];
 
 #[test]
 fn every_draw_is_lawful() {
     for seed in 0..400 {
         let mut rng = Rng::new(seed);
-        let job = sound_job(&mut rng, EDITIONS[seed as usize % 4]);
+        let job = sound_job(&mut rng, STREAMS[seed as usize % 4]);
         let sampler = Sampler::new(&job);
         for live in Live::BOTH {
             for question in Question::BOTH {
@@ -47,11 +48,11 @@ fn right_reports_are_not_beaten() {
     for job in [job_a(), two_lane_job(), level, farm_job(), arch_job()] {
         assert_eq!(first_beating(&job, &account_of(&job), 1, 4000), None);
     }
-    for edition in Edition::ALL {
+    for stream in Stream::ALL {
         for seed in 0..500 {
-            let job = sound_job(&mut Rng::new(seed), edition);
+            let job = sound_job(&mut Rng::new(seed), stream);
             let beating = first_beating(&job, &account_of(&job), seed, 60);
-            assert_eq!(beating, None, "{edition:?}, seed {seed}");
+            assert_eq!(beating, None, "{stream:?}, seed {seed}");
         }
     }
 }
@@ -71,7 +72,7 @@ fn values_short_by_1_are_beaten() {
         |account| account.ultimate.least.value += 1,
     ];
     let sound_jobs =
-        (0..120).map(|seed| sound_job(&mut Rng::new(seed), EDITIONS[seed as usize % 4]));
+        (0..120).map(|seed| sound_job(&mut Rng::new(seed), STREAMS[seed as usize % 4]));
     let jobs = sound_jobs.chain([job_a(), two_lane_job(), farm_job(), arch_job()]);
     for (job_number, job) in jobs.enumerate() {
         let account = account_of(&job);
@@ -385,21 +386,21 @@ fn falls_short(found: &Account, right: &Account) -> bool {
 /// the sham's doing.
 #[test]
 fn the_sham_kernel_is_right_where_it_overlooks_nothing() {
-    for (seed, edition) in (0..300).zip(Edition::ALL.into_iter().cycle()) {
-        let job = sound_job(&mut Rng::new(seed), edition);
+    for (seed, stream) in (0..300).zip(Stream::ALL.into_iter().cycle()) {
+        let job = sound_job(&mut Rng::new(seed), stream);
         let right = account_of(&job);
         let found = sham_account(&job, Sham::Nothing);
-        assert_eq!(values(&found), values(&right), "{edition:?}, seed {seed}");
+        assert_eq!(values(&found), values(&right), "{stream:?}, seed {seed}");
     }
 }
 
 /// Every report of a sham kernel that falls short is beaten.
 #[track_caller]
-fn are_beaten(edition: Edition, shams: &[Sham]) {
+fn are_beaten(stream: Stream, shams: &[Sham]) {
     for &sham in shams {
         let mut short = 0;
         for seed in 0..300 {
-            let job = sound_job(&mut Rng::new(seed), edition);
+            let job = sound_job(&mut Rng::new(seed), stream);
             let found = sham_account(&job, sham);
             if !falls_short(&found, &account_of(&job)) {
                 continue;
@@ -427,7 +428,7 @@ fn sham_kernels_are_beaten() {
         Sham::ReadsRow1Only,
         Sham::LeavesNothingOut,
     ];
-    are_beaten(Edition::One, &shams);
+    are_beaten(Stream::One, &shams);
 }
 
 #[test]
@@ -444,7 +445,7 @@ fn sham_kernels_of_farm_jobs_are_beaten() {
         Sham::CountsOwIn2C,
         Sham::TakesTheShareAfterRounding,
     ];
-    are_beaten(Edition::Four, &shams);
+    are_beaten(Stream::Four, &shams);
 }
 
 #[test]
@@ -459,7 +460,7 @@ fn sham_kernels_of_edition_2_are_beaten() {
         Sham::TakesTheLowHalfAsSigned,
         Sham::CountsWholeKilonewtons,
     ];
-    are_beaten(Edition::Two, &shams);
+    are_beaten(Stream::Two, &shams);
 }
 
 /// The farm job's ultimate least is 3A's with 0.8, and nothing else goes as far:

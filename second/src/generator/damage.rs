@@ -9,7 +9,7 @@ use super::line::give_a_piece_two_signs;
 use super::word_faults::{
     spoil_a_factor_word, spoil_a_header_word, spoil_an_ordinate, spoil_the_count,
 };
-use super::{sound_job, Case};
+use super::{sound_job, Case, Stream};
 use crate::edition::Edition;
 use crate::job::Job;
 use crate::rng::Rng;
@@ -26,17 +26,18 @@ pub fn faults_of(edition: Edition) -> &'static [u64] {
 
 /// A sound job with one to four faults, each meant for a refusal. With several
 /// faults one may undo or hide another; the first refusal counts anyway.
-pub(super) fn damaged_case(rng: &mut Rng, edition: Edition) -> Case {
+pub(super) fn damaged_case(rng: &mut Rng, stream: Stream) -> Case {
     let count = rng.pick(&[1, 1, 1, 2, 3, 4]);
-    let mut faults = faults_of(edition).to_vec();
+    let mut faults = faults_of(stream.edition()).to_vec();
     rng.shuffle(&mut faults);
     faults.truncate(count);
-    damaged(rng, edition, &faults)
+    damaged(rng, stream, &faults)
 }
 
 /// A sound job with a fault for each of these refusals.
-pub fn damaged(rng: &mut Rng, edition: Edition, faults: &[u64]) -> Case {
-    let mut job = sound_job(rng, edition);
+pub fn damaged(rng: &mut Rng, stream: Stream, faults: &[u64]) -> Case {
+    let edition = stream.edition();
+    let mut job = sound_job(rng, stream);
     let pieces = job.pieces.len();
     let mut patch = sufficient_patch(rng, pieces);
     damage_job(rng, &mut job, faults);

@@ -2,12 +2,12 @@
 //! place of a few of a sound job's.
 
 use super::draws::any_bytes;
-use super::{sound_job, Case};
-use crate::edition::Edition;
+use super::{sound_job, Case, Stream};
 use crate::rng::Rng;
 use crate::words::bytes_of;
 
-pub(super) fn plain_bytes(rng: &mut Rng, edition: Edition) -> Case {
+pub(super) fn plain_bytes(rng: &mut Rng, stream: Stream) -> Case {
+    let edition = stream.edition();
     let patch_length = rng.pick(&[0, 1, 20, 1000]);
     let patch = any_bytes(rng, patch_length);
     let job = match rng.below(6) {
@@ -28,7 +28,7 @@ pub(super) fn plain_bytes(rng: &mut Rng, edition: Edition) -> Case {
         }
         // A sound header and any words, or small ones, as many as are due.
         3 | 4 => {
-            let mut words = sound_job(rng, edition).words();
+            let mut words = sound_job(rng, stream).words();
             let small = rng.one_in(2);
             for word in &mut words[edition.header_words()..] {
                 *word = if small {
@@ -41,7 +41,7 @@ pub(super) fn plain_bytes(rng: &mut Rng, edition: Edition) -> Case {
         }
         // A sound job with a few bytes changed.
         _ => {
-            let mut job = sound_job(rng, edition).bytes();
+            let mut job = sound_job(rng, stream).bytes();
             for _ in 0..rng.between(1, 4) {
                 let at = rng.index(job.len());
                 job[at] = rng.number() as u8;

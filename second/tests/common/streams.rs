@@ -1,7 +1,8 @@
 //! What is asked of every stream: that its cases reach what they are to reach,
 //! that a fault gives its refusal, and that a seed's case never changes.
 
-use second::generator::{case, damaged, faults_of, Case, Edition};
+use second::edition::Edition;
+use second::generator::{case, damaged, faults_of, Case, Stream};
 use second::job::Job;
 use second::lanes::lane_count;
 use second::rng::Rng;
@@ -26,9 +27,9 @@ pub fn reach_all<C>(
     assert!(missed.is_empty(), "never reached: {missed:#?}");
 }
 
-/// What the faults of an edition's stream come to.
+/// What the faults of a stream come to.
 pub struct Faults {
-    pub edition: Edition,
+    pub stream: Stream,
     /// The refusals, in the order in which they are tested.
     pub order: &'static [u64],
     /// Editions that a fault of word 0 may name, whose own tests then apply.
@@ -54,7 +55,7 @@ impl Faults {
     /// But for 3, whose fault may come to nothing.
     #[track_caller]
     pub fn two_give_the_first_refusal(&self) {
-        assert_eq!(faults_of(self.edition), self.order);
+        assert_eq!(faults_of(self.stream.edition()), self.order);
         for (at, &first) in self.order.iter().enumerate() {
             if first == 3 {
                 continue;
@@ -71,7 +72,7 @@ impl Faults {
     /// The refusal that these faults give; 1 where word 0 is that of an edition
     /// admitted since.
     fn refusal_given(&self, faults: &[u64], seed: u64) -> u64 {
-        let case = damaged(&mut Rng::new(seed), self.edition, faults);
+        let case = damaged(&mut Rng::new(seed), self.stream, faults);
         match Edition::of_words(&words_of(&case.job)) {
             Some(named) if self.admitted_since.contains(&named) => 1,
             _ => answer_to(&case).refusal,
@@ -79,10 +80,10 @@ impl Faults {
     }
 }
 
-/// A sum over many of an edition's cases.
-pub fn sum_of_cases(edition: Edition) -> u64 {
+/// A sum over many of a stream's cases.
+pub fn sum_of_cases(stream: Stream) -> u64 {
     let bytes_of_case = |seed| {
-        let case = case(edition, seed);
+        let case = case(stream, seed);
         case.job.into_iter().chain(case.patch)
     };
     fnv_1a((0..2000).flat_map(bytes_of_case))

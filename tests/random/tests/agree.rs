@@ -1,7 +1,7 @@
 //! The kernel agrees with the second implementation on generated jobs, and no drawn arrangement beats a report.
 
 use random::{asked, call, judged, solve, ACCOUNT_BYTES};
-use second::generator::{case, faults_of, Case, Edition};
+use second::generator::{case, faults_of, Case, Stream};
 use second::job::Job;
 use second::words::words_of;
 use second::{chosen, sampler};
@@ -13,42 +13,42 @@ fn agreed_refusal(case: &Case) -> Result<u64, String> {
 
 #[test]
 fn kernel_and_second_implementation_agree_on_chosen_cases() {
-    for edition in Edition::ALL {
-        for (number, case) in chosen::cases(edition).enumerate() {
+    for stream in Stream::ALL {
+        for (number, case) in chosen::cases(stream).enumerate() {
             if let Err(fault) = agreed_refusal(&case) {
-                panic!("{edition:?}, chosen case {number}: {fault}");
+                panic!("{stream:?}, chosen case {number}: {fault}");
             }
         }
     }
 }
 
-/// The cases of an edition that the gate checks.
-fn usual_count(edition: Edition) -> u64 {
-    match edition {
-        Edition::One => 100_000,
-        Edition::Two | Edition::Four => 20_000,
+/// The cases of a stream that the gate checks.
+fn usual_count(stream: Stream) -> u64 {
+    match stream {
+        Stream::One => 100_000,
+        Stream::Two | Stream::Four => 20_000,
     }
 }
 
-/// Checks COUNT cases of each edition from SEED on (environment; by default the usual count from 0 on).
+/// Checks COUNT cases of each stream from SEED on (environment; by default the usual count from 0 on).
 #[test]
 fn kernel_and_second_implementation_agree() {
     let first = asked("SEED", 0);
-    for edition in Edition::ALL {
-        let count = asked("COUNT", usual_count(edition));
-        let number = edition.number();
+    for stream in Stream::ALL {
+        let count = asked("COUNT", usual_count(stream));
+        let name = stream.name();
         let mut refused = [0u64; 12];
         for seed in first..first + count {
-            let refusal = agreed_refusal(&case(edition, seed))
-                .unwrap_or_else(|fault| panic!("edition {number}, seed {seed}: {fault}"));
+            let refusal = agreed_refusal(&case(stream, seed))
+                .unwrap_or_else(|fault| panic!("stream {name}, seed {seed}: {fault}"));
             refused[refusal as usize] += 1;
         }
-        println!("edition {number}, {count} cases from seed {first}, by refusal {refused:?}");
+        println!("stream {name}, {count} cases from seed {first}, by refusal {refused:?}");
         if count >= 10_000 {
             let met = |refusal: &u64| refused[*refusal as usize] > 0;
             assert!(
-                met(&0) && faults_of(edition).iter().all(met),
-                "edition {number}: a refusal was never met: {refused:?}"
+                met(&0) && faults_of(stream.edition()).iter().all(met),
+                "stream {name}: a refusal was never met: {refused:?}"
             );
         }
     }
@@ -56,10 +56,10 @@ fn kernel_and_second_implementation_agree() {
 
 #[test]
 fn no_drawn_arrangement_beats_a_report() {
-    for edition in Edition::ALL {
+    for stream in Stream::ALL {
         let mut accepted = 0;
         for seed in 0..asked("DRAWN", 2_000) {
-            let case = case(edition, seed);
+            let case = case(stream, seed);
             let answer = solve(&case.job, &mut case.patch.clone());
             if answer.refusal != 0 {
                 continue;
@@ -67,16 +67,16 @@ fn no_drawn_arrangement_beats_a_report() {
             accepted += 1;
             let job = Job::decode(&words_of(&case.job));
             if let Some(beating) = sampler::first_beating(&job, &answer.account, seed, 20) {
-                panic!("{edition:?}, seed {seed}: {beating:?}");
+                panic!("{stream:?}, seed {seed}: {beating:?}");
             }
         }
-        assert!(accepted > 0, "{edition:?}: no job was accepted");
+        assert!(accepted > 0, "{stream:?}: no job was accepted");
     }
 }
 
 #[test]
 fn short_account_buffers_are_cleared() {
-    let case = case(Edition::One, 0);
+    let case = case(Stream::One, 0);
     for length in 0..ACCOUNT_BYTES {
         let mut patch = case.patch.clone();
         let mut account = vec![0xa5u8; length];
@@ -88,8 +88,8 @@ fn short_account_buffers_are_cleared() {
 
 #[test]
 fn bytes_past_an_account_stay() {
-    for (seed, edition) in (0..200).flat_map(|seed| Edition::ALL.map(|edition| (seed, edition))) {
-        let case = case(edition, seed);
+    for (seed, stream) in (0..200).flat_map(|seed| Stream::ALL.map(|stream| (seed, stream))) {
+        let case = case(stream, seed);
         let mut account = vec![0xa5u8; ACCOUNT_BYTES + 16];
         call(&case.job, &mut case.patch.clone(), &mut account);
         assert!(account[ACCOUNT_BYTES..].iter().all(|&byte| byte == 0xa5));
