@@ -2,10 +2,11 @@
 //! write its builder, with the reason above it, and put it at the end of
 //! BUILDERS; or, where words of Job A changed will do, put them into PAST_LIMITS.
 //! Those of edition 4 are in chosen/farm.rs, those of edition 2 in
-//! chosen/edition_2.rs.
+//! chosen/edition_2.rs, those with spans by sign in chosen/spans.rs.
 
 mod edition_2;
 mod farm;
+mod spans;
 
 use crate::edition::Edition;
 use crate::generator::{Case, Stream};
@@ -110,6 +111,7 @@ pub fn cases(stream: Stream) -> impl Iterator<Item = Case> {
         }
         Stream::Two => edition_2::cases(),
         Stream::Four => farm::cases(),
+        Stream::Spans => spans::cases(),
     };
     cases.into_iter()
 }
@@ -235,7 +237,7 @@ fn bare_job(edition: Edition, further_header: Vec<i64>) -> Job {
         dynamic_kind: 2,
         dynamic_value: 0,
         further_header,
-        pieces: vec![Piece { left: 8, right: 8 }],
+        pieces: vec![level_piece(8)],
         transverse: vec![100, 250, 333, 500, 21, -70, -900],
         effects: vec![],
         rows: vec![],
@@ -245,11 +247,14 @@ fn bare_job(edition: Edition, further_header: Vec<i64>) -> Job {
 
 /// The longest line of the longest pieces, level at this ordinate.
 fn longest_level_line(ordinate: i64) -> Vec<Piece> {
-    let piece = Piece {
+    vec![level_piece(ordinate); 20]
+}
+
+fn level_piece(ordinate: i64) -> Piece {
+    Piece {
         left: ordinate,
         right: ordinate,
-    };
-    vec![piece; 20]
+    }
 }
 
 /// The case with some of its job's words changed.

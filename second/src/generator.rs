@@ -1,6 +1,6 @@
 //! Generates jobs from a seed: sound ones of every shape, damaged ones for
 //! every refusal, and plain bytes. Each edition has a stream of its own, and so do
-//! the trains.
+//! spans by sign and the trains.
 
 mod damage;
 mod draws;
@@ -10,6 +10,7 @@ mod edition_4;
 mod header;
 mod line;
 mod plain;
+pub(crate) mod spans;
 mod stream;
 pub mod train;
 mod transverse;
@@ -53,5 +54,6 @@ pub fn sound_job(rng: &mut Rng, stream: Stream) -> Job {
         Stream::One => edition_1::sound_job(rng),
         Stream::Two => edition_2::sound_job(rng),
         Stream::Four => edition_4::sound_job(rng),
+        Stream::Spans => spans::sound_job(rng),
     }
 }

@@ -212,6 +212,13 @@ impl Job {
         words::bytes_of(&self.words())
     }
 
+    /// The job, of edition 2, with these spans by sign.
+    pub fn with_spans(mut self, greatest: i64, least: i64) -> Job {
+        (self.dynamic_kind, self.dynamic_value) = (SPANS_BY_SIGN, greatest);
+        self.further_header[0] = least;
+        self
+    }
+
     /// The dynamic factor of a question, in thousandths.
     pub fn dynamic_factor(&self, question: Question) -> i64 {
         let value = match (self.dynamic_kind, question) {

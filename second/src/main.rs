@@ -30,7 +30,7 @@ const USAGE: &str = "usage:
   second generate STREAM SEED COUNT DIR
                                    write COUNT cases of STREAM from SEED on into
                                    DIR, as SEED.job and SEED.patch; STREAM is 1, 2
-                                   or 4, as its edition
+                                   or 4, as its edition, or spans
   second store DIR                 write the cases to store into DIR/jobs, and
                                    what is due for each into DIR/expected
 ";

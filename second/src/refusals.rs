@@ -87,7 +87,7 @@ fn header_word_lawful(words: &[i32], place: usize, edition: Edition) -> bool {
 }
 
 /// The limits of a span, in dm.
-const SPANS: RangeInclusive<i32> = 1..=2000;
+pub const SPANS: RangeInclusive<i32> = 1..=2000;
 
 /// The limits of the dynamic value, by its kind.
 pub fn dynamic_value_limits(dynamic_kind: i64) -> RangeInclusive<i32> {

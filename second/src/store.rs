@@ -35,7 +35,7 @@ pub fn cases() -> impl Iterator<Item = Case> {
 fn cases_of(stream: Stream) -> usize {
     match stream {
         Stream::One => 1700,
-        Stream::Two | Stream::Four => 400,
+        Stream::Four | Stream::Two | Stream::Spans => 400,
     }
 }
 

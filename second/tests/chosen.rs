@@ -35,6 +35,33 @@ fn the_most_words_of_edition_2() {
     assert_eq!(reached[reached.len() - 2..], due);
 }
 
+/// The first with spans by sign are the pairs of spans of 1, 119, 120, 121, 122 and
+/// 2000 dm, whose factors are 1300 four times, 1299 and 1064. Their job is 8 over 5 m
+/// and -6 over the next, under an ordinate of 500: raising HN is 7 * 50 * 16 + 1600 * 8
+/// = 18400, HO 31200; lowering HN is 7 * 50 * -12 - 1600 * 6 = -13800, HO -23400. That
+/// is 690, 1170, -517.5 and -877.5 N·U for each thousandth.
+#[test]
+fn pairs_of_spans() {
+    let greatest = [(690 * 1300, 1170 * 1300); 4]
+        .into_iter()
+        .chain([(896_310, 1_519_830), (734_160, 1_244_880)]);
+    // 517.5 * 1299 = 672232.5 and 877.5 * 1299 = 1139872.5.
+    let least = [(-672_750, -1_140_750); 4]
+        .into_iter()
+        .chain([(-672_233, -1_139_873), (-550_620, -933_660)]);
+    let due = greatest.flat_map(|greatest| least.clone().map(move |least| (greatest, least)));
+    for (mut case, due) in chosen::cases(Stream::Spans).zip(due) {
+        let account = solve(&case.job, &mut case.patch).account;
+        let [normal, overload] = [account.normal_greatest, account.overload_greatest];
+        let [normal_least, overload_least] = [account.normal_least, account.overload_least];
+        let found = (
+            (normal.value, overload.value),
+            (normal_least.value, overload_least.value),
+        );
+        assert_eq!(found, due);
+    }
+}
+
 /// Twenty twentieths, the ordinate at 150 cm times n g, and the line effect of
 /// 7 and an axle give the sum: the dividends are next to 2^32 on both sides.
 #[test]

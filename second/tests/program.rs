@@ -319,6 +319,7 @@ fn unknown_arguments_are_a_usage_error() {
         &["generate", "1", "-1", "2", "."],
         &["generate", "0", "1", "1", "."],
         &["generate", "3", "1", "1", "."],
+        &["generate", "Spans", "1", "1", "."],
         &["generate", "4294967300", "1", "1", "."],
         &["farm-job", "more"],
         &["arch-job", "more"],

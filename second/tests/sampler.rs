@@ -23,13 +23,19 @@ use second::solve::account_of;
 use second::traffic::lanes_of;
 
 /// The others half as often as edition 1.
-const STREAMS: [Stream; 4] = [Stream::One, Stream::One, Stream::Four, Stream::Two];
+const STREAMS: [Stream; 5] = [
+    Stream::One,
+    Stream::One,
+    Stream::Four,
+    Stream::Two,
+    Stream::Spans,
+];
 
 #[test]
 fn every_draw_is_lawful() {
     for seed in 0..400 {
         let mut rng = Rng::new(seed);
-        let job = sound_job(&mut rng, STREAMS[seed as usize % 4]);
+        let job = sound_job(&mut rng, STREAMS[seed as usize % 5]);
         let sampler = Sampler::new(&job);
         for live in Live::BOTH {
             for question in Question::BOTH {
@@ -72,7 +78,7 @@ fn values_short_by_1_are_beaten() {
         |account| account.ultimate.least.value += 1,
     ];
     let sound_jobs =
-        (0..120).map(|seed| sound_job(&mut Rng::new(seed), STREAMS[seed as usize % 4]));
+        (0..120).map(|seed| sound_job(&mut Rng::new(seed), STREAMS[seed as usize % 5]));
     let jobs = sound_jobs.chain([job_a(), two_lane_job(), farm_job(), arch_job()]);
     for (job_number, job) in jobs.enumerate() {
         let account = account_of(&job);
@@ -157,6 +163,11 @@ enum Sham {
     DropsTheHighHalf,
     TakesTheLowHalfAsSigned,
     CountsWholeKilonewtons,
+    TakesTheSpanForGreatest,
+    TakesTheSpanForLeast,
+    ExchangesTheSpans,
+    TakesTheSpanByDirection,
+    RoundsTheFactorDown,
 }
 
 /// A farm bridge's OW, and its rows of group 2C with the factor of their others.
@@ -201,11 +212,47 @@ fn furthest(question: Question, numbers: impl Iterator<Item = i128>) -> i128 {
     }
 }
 
-fn sham_longitudinal(job: &Job, sham: Sham, element: Element, direction: Direction) -> i128 {
-    let question = match direction {
+/// The question that a direction answers on a line.
+fn question_of(direction: Direction) -> Question {
+    match direction {
         Direction::Raising => Question::Greatest,
         Direction::Lowering => Question::Least,
-    };
+    }
+}
+
+/// The dynamic factor of an element in a placement for a question.
+fn sham_dynamic(job: &Job, sham: Sham, question: Question, direction: Direction) -> i64 {
+    match (sham, question) {
+        (Sham::TakesTheSpanForGreatest, _) => job.dynamic_factor(Question::Greatest),
+        (Sham::TakesTheSpanForLeast, _) => job.dynamic_factor(Question::Least),
+        (Sham::ExchangesTheSpans, Question::Greatest) => job.dynamic_factor(Question::Least),
+        (Sham::ExchangesTheSpans, Question::Least) => job.dynamic_factor(Question::Greatest),
+        (Sham::TakesTheSpanByDirection, _) => job.dynamic_factor(question_of(direction)),
+        (Sham::RoundsTheFactorDown, Question::Greatest) => rounded_down(job.dynamic_value),
+        (Sham::RoundsTheFactorDown, Question::Least) => rounded_down(job.further_header[0]),
+        _ => job.dynamic_factor(question),
+    }
+}
+
+/// The factor of a span in dm, rounded down to a thousandth.
+fn rounded_down(span: i64) -> i64 {
+    if span <= 120 {
+        1300
+    } else {
+        1000 + 150_000 / (span + 380)
+    }
+}
+
+/// A longitudinal effect with its dynamic factor.
+fn sham_longitudinal(
+    job: &Job,
+    sham: Sham,
+    question: Question,
+    element: Element,
+    direction: Direction,
+) -> i128 {
+    let dynamic = sham_dynamic(job, sham, question, direction);
+    let question = question_of(direction);
     let first_station = match sham {
         Sham::TriesStationsOnTheLineOnly => 0,
         _ => *stations(job).start(),
@@ -220,7 +267,9 @@ fn sham_longitudinal(job: &Job, sham: Sham, element: Element, direction: Directi
         question,
         stands.map(|at| i128::from(pair_ordinates(job, at))),
     );
-    i128::from(uniform_effect(job, direction)) + i128::from(element.axle_load()) * pair
+    let effect =
+        i128::from(uniform_effect(job, direction)) + i128::from(element.axle_load()) * pair;
+    effect * i128::from(dynamic)
 }
 
 fn sham_value(job: &Job, sham: Sham, live: Live, question: Question) -> i64 {
@@ -229,10 +278,11 @@ fn sham_value(job: &Job, sham: Sham, live: Live, question: Question) -> i64 {
     }
     let lanes = lane_count(job.width);
     let of_element = |element: Element| -> Vec<i128> {
-        let raising = sham_longitudinal(job, sham, element, Direction::Raising);
+        let in_direction = |direction| sham_longitudinal(job, sham, question, element, direction);
+        let raising = in_direction(Direction::Raising);
         let lowering = match sham {
             Sham::RaisesEveryLane => raising,
-            _ => sham_longitudinal(job, sham, element, Direction::Lowering),
+            _ => in_direction(Direction::Lowering),
         };
         let in_lane = |lane: usize| {
             let limits = centre_limits(job.width, lane);
@@ -285,13 +335,12 @@ fn sham_value(job: &Job, sham: Sham, live: Live, question: Question) -> i64 {
             )
         }
     };
-    let dynamic = job.dynamic_factor(question);
     let n_times_g = lanes as i128 * i128::from(job.spacing);
     let twentieths = match job.edition {
         Edition::Four => 17,
         _ => 20,
     };
-    let (dividend, divisor) = (3 * sum * i128::from(dynamic), 800_000 * n_times_g);
+    let (dividend, divisor) = (3 * sum, 800_000 * n_times_g);
     let effect = match sham {
         Sham::TakesTheShareAfterRounding => question.round(dividend, divisor) * twentieths / 20,
         _ => question.round(dividend * twentieths, divisor * 20),
@@ -461,6 +510,20 @@ fn sham_kernels_of_edition_2_are_beaten() {
         Sham::CountsWholeKilonewtons,
     ];
     are_beaten(Stream::Two, &shams);
+}
+
+#[test]
+fn sham_kernels_of_spans_by_sign_are_beaten() {
+    let shams = [
+        Sham::CountsTheHoLaneForR,
+        Sham::LeavesNothingOut,
+        Sham::TakesTheSpanForGreatest,
+        Sham::TakesTheSpanForLeast,
+        Sham::ExchangesTheSpans,
+        Sham::TakesTheSpanByDirection,
+        Sham::RoundsTheFactorDown,
+    ];
+    are_beaten(Stream::Spans, &shams);
 }
 
 /// The farm job's ultimate least is 3A's with 0.8, and nothing else goes as far:

@@ -6,7 +6,9 @@ use common::{pieces, spans_job};
 use second::account::{Account, Traffic};
 use second::job::Job;
 use second::loads::{dynamic_factor, Question};
+use second::solve;
 use second::solve::account_of;
+use second::words::words_of;
 
 /// Spans in dm with their factors, what is over 1 being 15/(L + 38) with L in metres.
 const FACTORS: [(i64, i64); 24] = [
@@ -104,6 +106,19 @@ const SPANS: [(i64, [i64; 2]); 6] = [
     (122, AT_1299),
     (2000, AT_1064),
 ];
+
+/// Word 5 is the kind, word 6 the span for greatest, word 10 that for least and word
+/// 11 a zero; a job's fields come back from its words, and its bytes give its account.
+#[test]
+fn the_spans_are_words_6_and_10() {
+    let job = spans_job(122, 2000);
+    let words = words_of(&job.bytes());
+    assert_eq!(words[..12], [2, 50, 2, 50, 300, 4, 122, 0, 2, 0, 2000, 0]);
+    assert_eq!(Job::decode(&words), job);
+    let answer = solve(&job.bytes(), &mut [0; 2]);
+    let due = [AT_1299[0], -AT_1064[0], AT_1299[1], -AT_1064[1]];
+    assert_eq!((answer.refusal, traffic(&answer.account)), (0, due));
+}
 
 #[test]
 fn each_question_has_its_own_span() {

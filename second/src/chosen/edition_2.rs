@@ -267,7 +267,7 @@ fn largest_rows() -> Vec<Case> {
 }
 
 /// Five lanes, all sixteen effects on one chain, and rows of every live kind.
-fn sixteen_in_a_row() -> Job {
+pub(super) fn sixteen_in_a_row() -> Job {
     let mut job = short_job();
     (job.width, job.transverse) = (2079, vec![1000; 43]);
     (job.dynamic_kind, job.dynamic_value) = (1, 1300);

@@ -83,7 +83,7 @@ pub(super) fn cases() -> Vec<Case> {
 
 /// One piece, W 300 without barriers, a different value for each effect: 42
 /// words.
-fn short_farm_job() -> Job {
+pub(super) fn short_farm_job() -> Job {
     let value = |number: i64| number * number * if number % 2 == 0 { 1000 } else { -700 };
     Job {
         effects: effects(value),

@@ -6,6 +6,7 @@ use super::edition_1::{name_an_effect_twice, return_to_a_record};
 use super::edition_2::spoil_a_further_word;
 use super::edition_4::{spoil_an_effect_word, take_a_width_outside, widen_to_no_band};
 use super::line::give_a_piece_two_signs;
+use super::spans::{spans_in_another_edition, spoil_the_spans};
 use super::word_faults::{
     spoil_a_factor_word, spoil_a_header_word, spoil_an_ordinate, spoil_the_count,
 };
@@ -24,9 +25,13 @@ pub fn faults_of(edition: Edition) -> &'static [u64] {
     }
 }
 
-/// A sound job with one to four faults, each meant for a refusal. With several
-/// faults one may undo or hide another; the first refusal counts anyway.
+/// A sound job with one to four faults, each meant for a refusal; with spans by sign
+/// also one of an edition that has none. With several faults one may undo or hide
+/// another; the first refusal counts anyway.
 pub(super) fn damaged_case(rng: &mut Rng, stream: Stream) -> Case {
+    if stream == Stream::Spans && rng.one_in(8) {
+        return spans_in_another_edition(rng);
+    }
     let count = rng.pick(&[1, 1, 1, 2, 3, 4]);
     let mut faults = faults_of(stream.edition()).to_vec();
     rng.shuffle(&mut faults);
@@ -68,10 +73,7 @@ pub fn damaged(rng: &mut Rng, stream: Stream, faults: &[u64]) -> Case {
         widen_to_no_band(rng, &mut words);
     }
     if faults.contains(&2) {
-        spoil_a_header_word(rng, &mut words, edition);
-        if edition == Edition::Two && rng.one_in(3) {
-            spoil_a_further_word(rng, &mut words);
-        }
+        spoil_the_header(rng, &mut words, stream);
     }
     let mut bytes = bytes_of(&words);
     if faults.contains(&1) {
@@ -95,6 +97,29 @@ fn damage_job(rng: &mut Rng, job: &mut Job, faults: &[u64]) {
     }
     if faults.contains(&11) {
         take_a_width_outside(rng, job);
+    }
+}
+
+/// Spoils a word of the header or more: in edition 2 often one of its last two, with
+/// spans by sign often what is said of the spans.
+fn spoil_the_header(rng: &mut Rng, words: &mut [i32], stream: Stream) {
+    match stream {
+        Stream::One | Stream::Four => spoil_a_header_word(rng, words, stream),
+        Stream::Two => {
+            spoil_a_header_word(rng, words, stream);
+            if rng.one_in(3) {
+                spoil_a_further_word(rng, words);
+            }
+        }
+        Stream::Spans => {
+            let which = rng.below(3);
+            if which != 0 {
+                spoil_the_spans(rng, words);
+            }
+            if which != 1 {
+                spoil_a_header_word(rng, words, stream);
+            }
+        }
     }
 }
 

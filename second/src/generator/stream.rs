@@ -3,24 +3,27 @@
 
 use crate::edition::Edition;
 
-/// A stream, of the cases of an edition.
+/// A stream; its sound jobs are of one edition.
 #[derive(Debug, Clone, Copy, PartialEq, Eq)]
 pub enum Stream {
     One,
     Four,
+    /// Edition 2, with the kinds of edition 1.
     Two,
+    /// Edition 2 with spans by sign.
+    Spans,
 }
 
 impl Stream {
     /// In the order in which the requests of 02 bring them.
-    pub const ALL: [Stream; 3] = [Stream::One, Stream::Four, Stream::Two];
+    pub const ALL: [Stream; 4] = [Stream::One, Stream::Four, Stream::Two, Stream::Spans];
 
     /// The edition of its sound jobs.
     pub fn edition(self) -> Edition {
         match self {
             Stream::One => Edition::One,
             Stream::Four => Edition::Four,
-            Stream::Two => Edition::Two,
+            Stream::Two | Stream::Spans => Edition::Two,
         }
     }
 
@@ -30,6 +33,7 @@ impl Stream {
             Stream::One => "1",
             Stream::Four => "4",
             Stream::Two => "2",
+            Stream::Spans => "spans",
         }
     }
 

@@ -4,6 +4,7 @@
 use super::draws::{first_last_or_any, outside, outside_limits};
 use super::edition_2::spoil_a_wide_effect;
 use super::line::LONGEST_LINE;
+use super::Stream;
 use crate::edition::Edition;
 use crate::refusals::{dynamic_value_limits, later_header_word_limits};
 use crate::rng::Rng;
@@ -98,7 +99,8 @@ fn counting_words(edition: Edition) -> &'static [(usize, i64, i64)] {
     }
 }
 
-pub(super) fn spoil_a_header_word(rng: &mut Rng, words: &mut [i32], edition: Edition) {
+pub(super) fn spoil_a_header_word(rng: &mut Rng, words: &mut [i32], stream: Stream) {
+    let edition = stream.edition();
     let place = 1 + rng.index(edition.header_words() - 1);
     let dynamic_kind = words[sections::DYNAMIC_KIND].into();
     words[place] = match place {
@@ -110,10 +112,19 @@ pub(super) fn spoil_a_header_word(rng: &mut Rng, words: &mut [i32], edition: Edi
         }
         sections::SPACING => outside(rng, 10, 50),
         sections::WIDTH => outside(rng, 300, 2079),
-        sections::DYNAMIC_KIND => outside(rng, 1, 3),
+        sections::DYNAMIC_KIND => outside(rng, 1, last_dynamic_kind(stream)),
         sections::DYNAMIC_VALUE => outside_limits(rng, &dynamic_value_limits(dynamic_kind)),
         _ => outside_later_limits(rng, place, edition, dynamic_kind),
     };
+}
+
+/// The last kind that is no fault in a stream. In edition 2's own it is 3: that
+/// stream never changes, and with kind 4 its jobs want a span for least.
+fn last_dynamic_kind(stream: Stream) -> i32 {
+    match stream {
+        Stream::One | Stream::Four | Stream::Two => 3,
+        Stream::Spans => 4,
+    }
 }
 
 /// What spoils a header word from the number of effects on: in a farm job often

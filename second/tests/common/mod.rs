@@ -13,7 +13,7 @@ pub mod train_definition;
 use second::edition::Edition;
 use second::job::{
     Effect, Job, Piece, Record, Row, ALWAYS_PRESENT, LIVE_NONE, LIVE_NORMAL, LIVE_OVERLOAD,
-    MAY_BE_LEFT_OUT, SERVICE, SPANS_BY_SIGN, ULTIMATE,
+    MAY_BE_LEFT_OUT, SERVICE, ULTIMATE,
 };
 use second::line::section_bytes;
 use second::train::{Axle, TrainCase};
@@ -133,18 +133,17 @@ pub fn level_job(width: i64, spacing: i64, transverse: Vec<i64>) -> Job {
 /// -31200. For each thousandth of the dynamic factor normal is 18400 * 1000 * 20 * 3 /
 /// 800000 = 1380 N·U either way, overload 31200 * 1000 * 20 * 3 / 800000 = 2340.
 pub fn spans_job(greatest: i64, least: i64) -> Job {
-    Job {
+    let job = Job {
         edition: Edition::Two,
-        dynamic_kind: SPANS_BY_SIGN,
-        dynamic_value: greatest,
-        further_header: vec![least, 0],
+        further_header: vec![0, 0],
         pieces: pieces(&[(8, 8), (-8, -8)]),
         rows: vec![
             Row::new(SERVICE, LIVE_NORMAL, 1350, 0),
             Row::new(ULTIMATE, LIVE_OVERLOAD, 1500, 0),
         ],
         ..level_job(300, 50, vec![1000; 7])
-    }
+    };
+    job.with_spans(greatest, least)
 }
 
 /// A farm bridge without barriers on one piece of 5 m with both ordinates 8, W
