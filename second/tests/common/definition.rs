@@ -352,8 +352,8 @@ fn dynamic_factors(header: &[i64]) -> [i64; 2] {
 }
 
 /// The lowest whole number of thousandths that 1 + 15/(L + 38) does not pass, L in
-/// metres; but 1300 to 12 m. What is over 1 counts L + 38 times, in tenths of a metre
-/// and thousandths.
+/// metres; but 1300 to 12 m. What the factor is over 1, times L + 38, reaches 15, here
+/// in thousandths and in dm.
 fn factor_by_counting(decimetres: i64) -> i64 {
     let enough = |thousandths: &i64| (thousandths - 1000) * (decimetres + 10 * 38) >= 15 * 10_000;
     match decimetres {
