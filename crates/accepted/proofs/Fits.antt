@@ -1,23 +1,23 @@
 -- What an accepted job gives each part of its account: its section has its words, within their limits.
-use mathlib.Core.Path.{_≡_, refl, sym, _∙_, ap₂, subst}
-use mathlib.Core.Bool.{true}
+use mathlib.Core.Path.{_≡_, refl, sym, subst}
 use mathlib.Core.Logic.{inl, inr}
 use mathlib.Core.List.{List, [], _∷_}
 use Prim.Native.Nat.{ℕ, _*_, _≤_, _<_}
 use native.Mathlib.Omega.{arith}
-use lib.IntN.{ℤ, pos}
+use lib.IntN.{ℤ}
+use lib.ListN.{length}
 use Rattle.exact.specs.declared.Question.{Question}
 use Rattle.model.specs.Job.{rural, Live, Limit}
-use Rattle.model.specs.Decode.{decode, effectAt, rowCount, rowOf}
+use Rattle.model.specs.Decode.{decode, dynamicValue, effectAt, rowCount, rowOf}
 use Rattle.model.specs.Lanes.{lanes}
 use Rattle.model.specs.declared.State.{State}
 use Rattle.model.specs.Dynamic.{dynamicFactor}
-use Rattle.model.specs.Format.{profileOf, effectUnit, headerOf, dynamicFits, sectionOf}
+use Rattle.model.specs.Format.{profileOf, effectUnit, headerOf, sectionOf}
 use Rattle.model.specs.declared.Header.{Header}
 use Rattle.model.specs.declared.Part.the-variants.{Line, Transverse, Effects, Rows, Records}
 use Rattle.model.proofs.Counts.{OneOf}
-use Rattle.model.proofs.Verdict.{Clear, clear}
-use Rattle.model.proofs.HeaderLimits.{HeaderFits, header-fits, dynamic-range}
+use Rattle.model.proofs.Verdict.{Clear, clear, edition-words, has-header}
+use Rattle.model.proofs.HeaderLimits.{HeaderFits, header-fits, dynamic-range, dynamic-most}
 use Rattle.model.proofs.LineLimits.{line-within, transverse-within, OneSigned}
 use Rattle.model.proofs.Accepted.{accepted-signed, accepted-spaced, accepted-one-lane}
 use Rattle.sections.specs.Sized.{Sized}
@@ -87,13 +87,14 @@ module _ {b : List ℕ} {head : Header} (ready : Ready b head) where
   unfolding decode
   profile-is = own (λ h. profileOf (headerOf b .edition) ≡ profileOf (h .edition)) refl
 
-  pub dynamic-limits : (1 ≤ head .kind) × ((head .kind ≤ 3) × (dynamicFits (pos (head .kind)) (pos (head .value)) ≡ true))
-  dynamic-limits =
-      own (λ h. (1 ≤ h .kind) × ((h .kind ≤ 3) × (dynamicFits (pos (h .kind)) (pos (h .value)) ≡ true)))
-      (header .kind .least, (header .kind .most, ap₂ dynamicFits (sym (header .kind .is)) (sym (header .value .is)) ∙ header .valueFits))
+  -- a question's dynamic value is there, and so its factor
+  pub dynamic-limits : (q : Question) → (head .kind ≡ 4 → 44 ≤ length b) × (dynamicValue b head q ≤ 5000)
+  dynamic-limits q =
+      own (λ h. (h .kind ≡ 4 → 44 ≤ length b) × (dynamicValue b h q ≤ 5000))
+      (λ k. let l = edition-words (headerOf b) (header .fourth k) (has-header b (c .c1)) in omega arith, dynamic-most (header .dynamic q))
 
-  pub dynamic : (1000 ≤ dynamicFactor (head .kind) (head .value)) × (dynamicFactor (head .kind) (head .value) ≤ 1300)
-  dynamic = own (λ h. (1000 ≤ dynamicFactor (h .kind) (h .value)) × (dynamicFactor (h .kind) (h .value) ≤ 1300)) (dynamic-range _ _ (header .dynamic))
+  pub dynamic : (q : Question) → (1000 ≤ dynamicFactor (head .kind) (dynamicValue b head q)) × (dynamicFactor (head .kind) (dynamicValue b head q) ≤ 1300)
+  dynamic q = own (λ h. (1000 ≤ dynamicFactor (h .kind) (dynamicValue b h q)) × (dynamicFactor (h .kind) (dynamicValue b h q) ≤ 1300)) (dynamic-range _ _ (header .dynamic q))
 
   pub signed : OneSigned (decode b .line)
   signed = accepted-signed b (ready .accepted)

@@ -11,7 +11,7 @@ use Rattle.exact.specs.Parts.{up}
 use Rattle.exact.proofs.Held.{Room, known, told}
 use Rattle.exact.specs.declared.Question.{Question}
 use Rattle.model.specs.Job.{Job}
-use Rattle.model.specs.Decode.{decode, carriageway}
+use Rattle.model.specs.Decode.{decode, carriageway, dynamicValue}
 use Rattle.model.specs.Dynamic.{dynamicFactor}
 use Rattle.model.specs.Lanes.{lanes, unit}
 use Rattle.model.specs.Line.{Kind, HN, HO, axle, lineEffect}
@@ -68,6 +68,6 @@ module _ {b : List ℕ} {head : Header} (ready : Ready b head) where
       record { lanes = r .lanes; unit = r .unit; each = r .each }
 
   -- the dynamic factor is the job's
-  pub factor-is : {d : ℕ} → d ≡ dynamicFactor (head .kind) (head .value) → (q : Question) → d ≡ decode b .dynamic q
+  pub factor-is : (q : Question) {d : ℕ} → d ≡ dynamicFactor (head .kind) (dynamicValue b head q) → d ≡ decode b .dynamic q
   unfolding decode
-  factor-is factor q = factor ∙ subst (λ (h : Header). dynamicFactor (head .kind) (head .value) ≡ dynamicFactor (h .kind) (h .value)) (ready .own) refl
+  factor-is q factor = factor ∙ subst (λ (h : Header). dynamicFactor (head .kind) (dynamicValue b head q) ≡ dynamicFactor (h .kind) (dynamicValue b h q)) (ready .own) refl

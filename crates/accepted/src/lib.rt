@@ -55,15 +55,16 @@ fn values(job: &[u8], head: Header, raising: Sought, lowering: Sought) -> Traffi
         raising: Ho::effect(raising),
         lowering: Ho::effect(lowering),
     };
-    let d = dynamic::factor(head.kind, head.value);
+    let dg = dynamic::factor(job, head, Question::Greatest);
+    let dl = dynamic::factor(job, head, Question::Least);
     let across = centres::across_of(
         sections::section(job, head, Part::Transverse),
         head.width,
         head.spacing,
     );
     let edition = head.edition;
-    let most = traffic::both(Question::Greatest, edition, across, d, hn, ho);
-    let lowest = traffic::both(Question::Least, edition, across, d, hn, ho);
+    let most = traffic::both(Question::Greatest, edition, across, dg, hn, ho);
+    let lowest = traffic::both(Question::Least, edition, across, dl, hn, ho);
     let ng = most.normal;
     let nl = lowest.normal;
     let og = most.overload;

@@ -10,7 +10,7 @@ ghost use Rattle.exact.specs.Bounds.{Within};
 ghost use Rattle.exact.specs.Choice.{if_then_else_, between};
 ghost use Rattle.words.specs.Words.{wordAt, wide};
 ghost use Rattle.words.specs.Fields.{Field, admits, misfitFrom, itemFrom, misfit};
-ghost use Rattle.model.specs.Format.{profileOf, kilonewtons, newtons, effectUnit, is, pieceLength, pieceCount, dynamicFits, listedCounts, tableCounts, mark, effectFields, format, size, bytes, effectSize, words};
+ghost use Rattle.model.specs.Format.{profileOf, kilonewtons, newtons, effectUnit, is, pieceLength, pieceCount, dynamicKinds, spanFits, dynamicFits, leastSpanFits, listedCounts, tableCounts, mark, effectFields, format, size, bytes, effectSize, words};
 ghost use Rattle.model.specs.Refusals.{clearWidth, widthTest};
 ghost use Rattle.model.specs.declared.Edition.the-variants.{Second, Fourth};
 ghost use Rattle.model.specs.declared.Part.the-variants.{Head, Line, Transverse, Effects, Rows, Records};
@@ -96,6 +96,25 @@ pub fn pieces_fit(h: i64, n: i64) -> bool
     false
 }
 
+// The last dynamic kind of an edition.
+fn dynamic_kinds(edition: Edition) -> usize
+    ensures { λ r. ⌜ r ≡ dynamicKinds edition ⌝ }
+{
+    match edition {
+        Edition::First => 3,
+        Edition::Second => 4,
+        Edition::Fourth => 3,
+    }
+}
+
+// Word p is a span in dm.
+fn span_fits(s: &[u8], p: usize) -> bool
+    requires { ⌜ 4 * p + 4 ≤ length (now s) ⌝ }
+    ensures { λ r. ⌜ r ≡ spanFits (wordAt (now (s .entry)) p) ⌝ }
+{
+    in_range(s, p, 1, 2000)
+}
+
 // The dynamic value for its kind.
 fn dynamic_fits(s: &[u8]) -> bool
     requires { ⌜ bytes Head ≤ length (now s) ⌝ }
@@ -108,7 +127,21 @@ fn dynamic_fits(s: &[u8]) -> bool
     if kind == 2 {
         return in_range(s, 6, 0, 0);
     }
-    in_range(s, 6, 0, 5000)
+    if kind == 3 {
+        return in_range(s, 6, 0, 5000);
+    }
+    span_fits(s, 6)
+}
+
+// The span for least: with kind 4, else 0.
+fn least_span_fits(s: &[u8]) -> bool
+    requires { ⌜ 44 ≤ length (now s) ⌝ }
+    ensures { λ r. ⌜ r ≡ leastSpanFits (wordAt (now (s .entry)) 5) (wordAt (now (s .entry)) 10) ⌝ }
+{
+    if words::word(s, 5) == 4 {
+        return span_fits(s, 10);
+    }
+    in_range(s, 10, 0, 0)
 }
 
 // The words from 7 on of a job that lists its rows: E, R, C, and later ones.
@@ -121,13 +154,13 @@ fn listed_counts(s: &[u8], later: Fault) -> Fault
     field(7, in_range(s, 7, 0, 16), rows)
 }
 
-// Edition 2's words from 7 on: E, R, C, and two that are 0.
+// Edition 2's words from 7 on: E, R, C, the span for least, and one that is 0.
 fn second_counts(s: &[u8]) -> Fault
     requires { ⌜ 48 ≤ length (now s) ⌝ }
     ensures { λ r. ⌜ placeOf r ≡ misfitFrom 7 (tableCounts Second) (itemFrom (now (s .entry)) 0 0) ⌝ }
 {
     let last = field(11, in_range(s, 11, 0, 0), Fault::Clear);
-    listed_counts(s, field(10, in_range(s, 10, 0, 0), last))
+    listed_counts(s, field(10, least_span_fits(s), last))
 }
 
 // Edition 4's words from 7 on: its eleven effects, no rows or records of its own, barriers.
@@ -160,7 +193,8 @@ pub fn header_misfit(s: &[u8], head: Header) -> Fault
     ensures { λ r. ⌜ placeOf r ≡ misfitFrom 0 (format head Head .fields) (itemFrom (now (s .entry)) 0 0) ⌝ }
 {
     let value = field(6, dynamic_fits(s), counts_misfit(s, head));
-    let kind = field(5, in_range(s, 5, 1, 3), value);
+    let edition = head.edition;
+    let kind = field(5, in_range(s, 5, 1, dynamic_kinds(edition)), value);
     let width = field(4, in_range(s, 4, 300, 2079), kind);
     let spacing = field(3, in_range(s, 3, 10, 50), width);
     let h = words::word(s, 1);

@@ -1,9 +1,9 @@
 -- A word within limits, as facts about numbers.
-use mathlib.Core.Path.{_≡_, refl}
+use mathlib.Core.Path.{_≡_, refl, sym, _∙_, ap}
 use mathlib.Core.Logic.{_⊎_, inl, inr}
-use mathlib.Core.Bool.{true, false≢true, and-eq-true-iff, _||_}
+use mathlib.Core.Bool.{true, false, true≢false, false≢true, and-eq-true-iff, _||_}
 use mathlib.Core.List.{List, [], _∷_}
-use Prim.Native.Nat.{ℕ, _≤_}
+use Prim.Native.Nat.{ℕ, _≤_, _<_}
 use native.Mathlib.Omega.{arith}
 use lib.IntN.{ℤ, pos, negsuc, negℤ}
 use lib.Signed.{leZ}
@@ -30,6 +30,17 @@ between-count lo hi (pos n) e =
     let t = and-eq-true-iff (leZ (pos lo) (pos n)) (leZ (pos n) (pos hi)) .0 e in
     record { is = refl; least = omega (arith, ≤→ℕ (leZ-true (pos lo) (pos n) (t .0))); most = omega (arith, ≤→ℕ (leZ-true (pos n) (pos hi) (t .1))) }
 between-count lo hi (negsuc n) e = absurd (false≢true e)
+
+-- a word that is m, and one that is not
+pub is-number : (m : ℕ) (z : ℤ) → is m z ≡ true → up z ≡ m
+is-number m z t = let c = between-count m m z t in omega (arith, c .least, c .most)
+
+is-another : (m : ℕ) {z : ℤ} → is m z ≡ false → is m (pos m) ≡ true → z ≡ pos (up z) → ¬ (up z ≡ m)
+is-another m f t n e = true≢false (sym t ∙ ap (is m) (ap pos (sym e) ∙ sym n) ∙ f)
+
+-- a number from 1 on that is neither 1, 2 nor 3
+pub past-three : {hi : ℕ} {z : ℤ} → Count 1 hi z → is 1 z ≡ false → is 2 z ≡ false → is 3 z ≡ false → 3 < up z
+past-three c f g h = let one = is-another 1 f refl (c .is) in let two = is-another 2 g refl (c .is) in let three = is-another 3 h refl (c .is) in omega (arith, c .least)
 
 -- a word from -m to m
 pub between-within : (m : ℕ) (z : ℤ) → between (negℤ (pos m)) (pos m) z ≡ true → Within m z

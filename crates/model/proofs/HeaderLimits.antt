@@ -1,38 +1,46 @@
 -- Refusals 2 and 11: a job without them has each header word within its limits, and a rural bridge its width.
-use mathlib.Core.Path.{_≡_, refl, sym, _∙_, ap, subst}
+use mathlib.Core.Path.{_≡_, refl, _∙_, ap, subst}
 use mathlib.Core.Logic.{inl, inr}
-use mathlib.Core.Bool.{true, false, true≢false, and-eq-true-iff}
+use mathlib.Core.Bool.{true, false, and-eq-true-iff}
 use mathlib.Core.Option.{none}
 use mathlib.Core.List.{List, [], _∷_}
 use Prim.Native.Nat.{ℕ, _+_, _*_, _/_, _≤_, _<_}
 use native.Mathlib.Omega.{arith}
+use borrow.Author.Tests.{eqb-true}
 use lib.IntN.{ℤ, pos, _*ℤ_}
+use lib.Dec.{eqb}
 use lib.ListN.{length, getD}
 use native.Mathlib.Nat.{mul-zero}
 use lib.Signed.{_≤ℤ_, leZ}
 use Rattle.exact.specs.Choice.{if_then_else_, between}
 use Rattle.exact.specs.Parts.{up}
+use Rattle.exact.specs.declared.Question.{Question}
+use Rattle.exact.specs.declared.Question.the-variants.{Least}
 use Rattle.exact.proofs.Bridge.{by-test, ≤→ℕ}
+use Rattle.exact.proofs.Extremes.{by-question}
 use Rattle.exact.proofs.Tests.{leZ-true}
 use Rattle.words.specs.Words.{wordAt, countAt}
 use Rattle.words.specs.Fields.{free, range, _of_, itemFrom, misfit}
-use Rattle.model.specs.Format.{profileOf, headerOf, is, dynamicFits, tableCounts, format, words, bytes, sectionOf}
+use Rattle.model.specs.Format.{profileOf, headerOf, is, dynamicKinds, spanFits, dynamicFits, leastSpanFits, tableCounts, format, words, bytes, sectionOf}
 use Rattle.model.specs.Job.{Profile, highway, rural}
+use Rattle.model.specs.Decode.{dynamicValue}
 use Rattle.model.specs.Dynamic.{dynamicFactor}
 use Rattle.model.specs.Refusals.{fault2, widthTest, fault11}
 use Rattle.model.specs.declared.Edition.{Edition}
 use Rattle.model.specs.declared.Edition.the-variants.{First, Second, Fourth}
 use Rattle.model.specs.declared.Part.the-variants.{Head}
 use Rattle.model.proofs.Verdict.{header-long}
-use Rattle.model.proofs.Counts.{Count, wider, between-count, OneOf, one-of}
+use Rattle.model.proofs.Counts.{Count, wider, between-count, is-number, past-three, OneOf, one-of}
 use Rattle.model.proofs.Sections.{section-word}
+use Rattle.model.proofs.Dynamic.{span-range}
 use Rattle.words.proofs.Fits.{or-none, moved-none, fits}
 
--- words 5 and 6: a kind with its value
+-- a dynamic kind with a value of its own
 pub data DynamicRight (kind value : ℕ) : Type 0 where
   read : kind ≡ 1 → 1000 ≤ value → value ≤ 1300 → DynamicRight kind value
   buried : kind ≡ 2 → value ≡ 0 → DynamicRight kind value
   culvert : kind ≡ 3 → value ≤ 5000 → DynamicRight kind value
+  span : kind ≡ 4 → 1 ≤ value → value ≤ 2000 → DynamicRight kind value
 
 -- each header word within its limits
 pub record HeaderFits (b : List ℕ) : Type 0 where
@@ -42,10 +50,9 @@ pub record HeaderFits (b : List ℕ) : Type 0 where
   pub reach : headerOf b .pieces * headerOf b .h ≤ 1000
   pub spacing : Count 10 50 (wordAt b 3)
   pub wide : Count 300 2079 (wordAt b 4)
-  pub kind : Count 1 3 (wordAt b 5)
-  pub value : Count 0 5000 (wordAt b 6)
-  pub valueFits : dynamicFits (wordAt b 5) (wordAt b 6) ≡ true
-  pub dynamic : DynamicRight (countAt b 5) (countAt b 6)
+  pub dynamic : (q : Question) → DynamicRight (countAt b 5) (dynamicValue b (headerOf b) q)
+  -- kind 4 is edition 2's
+  pub fourth : countAt b 5 ≡ 4 → headerOf b .edition ≡ Second
   pub effects : Count 0 16 (wordAt b 7)
   pub rows : Count 0 32 (wordAt b 8)
   pub records : Count 0 512 (wordAt b 9)
@@ -55,29 +62,24 @@ pub record HeaderFits (b : List ℕ) : Type 0 where
 not-rural : highway ≡ rural → ⊥
 not-rural e = subst (λ (p : Profile). elim p as (λ _. Type 0) [ highway ↦ Unit {0} | rural ↦ ⊥ ]) e tt
 
-dynamic-words : (x y : ℤ) → Count 1 3 x → dynamicFits x y ≡ true → Count 0 5000 y × DynamicRight (up x) (up y)
+-- words 5 and 6
+dynamic-words : (x y : ℤ) → Count 1 4 x → dynamicFits x y ≡ true → DynamicRight (up x) (up y)
 dynamic-words x y c =
-    by-test (is 1 x) (λ t. (if t then between (pos 1000) (pos 1300) y else (if is 2 x then is 0 y else between (pos 0) (pos 5000) y)) ≡ true → Count 0 5000 y × DynamicRight (up x) (up y))
-    (λ t e.
-    let k = between-count 1 1 x t in
-    let v = between-count 1000 1300 y e in
-    (record { is = v .is; least = omega arith; most = omega (arith, v .most) }, read (omega (arith, k .least, k .most)) (v .least) (v .most)))
-    (by-test (is 2 x) (λ t. is 1 x ≡ false → (if t then is 0 y else between (pos 0) (pos 5000) y) ≡ true → Count 0 5000 y × DynamicRight (up x) (up y))
-    (λ t _ e.
-    let k = between-count 2 2 x t in
-    let v = between-count 0 0 y e in
-    (record { is = v .is; least = omega arith; most = omega (arith, v .most) }, buried (omega (arith, k .least, k .most)) (omega (arith, v .most))))
-    (λ t f e. let v = between-count 0 5000 y e in (v, culvert (third f t) (v .most))))
-  where
-    other : (m : ℕ) → is m x ≡ false → is m (pos m) ≡ true → ¬ (up x ≡ m)
-    other m f t e = true≢false (sym t ∙ ap (is m) (ap pos (sym e) ∙ sym (c .is)) ∙ f)
-
-    third : is 1 x ≡ false → is 2 x ≡ false → up x ≡ 3
-    third f t = let a = other 1 f refl in let b = other 2 t refl in omega (arith, c .least, c .most)
+    by-test (is 1 x) (λ t. (if t then between (pos 1000) (pos 1300) y else (if is 2 x then is 0 y else (if is 3 x then between (pos 0) (pos 5000) y else spanFits y))) ≡ true → DynamicRight (up x) (up y))
+    (λ t e. let v = between-count 1000 1300 y e in read (is-number 1 x t) (v .least) (v .most))
+    (by-test (is 2 x) (λ t. is 1 x ≡ false → (if t then is 0 y else (if is 3 x then between (pos 0) (pos 5000) y else spanFits y)) ≡ true → DynamicRight (up x) (up y))
+    (λ t _ e. let v = between-count 0 0 y e in buried (is-number 2 x t) (omega (arith, v .most)))
+    (by-test (is 3 x) (λ t. is 2 x ≡ false → is 1 x ≡ false → (if t then between (pos 0) (pos 5000) y else spanFits y) ≡ true → DynamicRight (up x) (up y))
+    (λ t _ _ e. culvert (is-number 3 x t) (between-count 0 5000 y e .most))
+    (λ t f g e. let v = between-count 1 2000 y e in span (omega (arith, past-three c g f t, c .most)) (v .least) (v .most))))
 
 -- the header's words are the job's first
-head-word : (b : List ℕ) (q : ℕ) → q < 10 → wordAt (sectionOf b Head) q ≡ wordAt b q
-head-word b q h = let g : 0 + q ≡ q = omega arith in section-word b (headerOf b) Head q (omega (arith, header-long (headerOf b))) ∙ ap (wordAt b) g
+head-word : (b : List ℕ) (q : ℕ) → q < words (headerOf b) Head → wordAt (sectionOf b Head) q ≡ wordAt b q
+head-word b q h = let g : 0 + q ≡ q = omega arith in section-word b (headerOf b) Head q h ∙ ap (wordAt b) g
+
+-- ten of them in every edition
+early : (b : List ℕ) {q : ℕ} → q < 10 → q < words (headerOf b) Head
+early b h = omega (arith, header-long (headerOf b))
 
 -- a job without fault 2 has a header within its limits
 pub header-fits : (b : List ℕ) → fault2 b ≡ none → HeaderFits b
@@ -86,9 +88,9 @@ header-fits b e =
     let l = one-of (1 ∷ 2 ∷ 5 ∷ 10 ∷ 25 ∷ 50 ∷ []) (itemFrom (sectionOf b Head) 0 0) (wordAt b 1) (rw (word 1 (omega arith)) at (field 1 (omega arith))) in
     let n = and-eq-true-iff (between (pos 1) (pos 1000) (wordAt b 2)) (leZ (wordAt b 2 *ℤ wordAt b 1) (pos 1000)) .0 (rw (word 2 (omega arith), word 1 (omega arith)) at (field 2 (omega arith))) in
     let pieces = between-count 1 1000 (wordAt b 2) (n .0) in
-    let kind = count 5 1 3 (omega arith) (field 5 (omega arith)) in
+    let kind = count 5 1 (dynamicKinds (headerOf b .edition)) (omega arith) (field 5 (omega arith)) in
     let fits : dynamicFits (wordAt b 5) (wordAt b 6) ≡ true = rw (word 5 (omega arith), word 6 (omega arith)) at (field 6 (omega arith)) in
-    let value = dynamic-words (wordAt b 5) (wordAt b 6) kind fits in
+    let greatest = dynamic-words (wordAt b 5) (wordAt b 6) (four kind) fits in
     record {
       length = l .0;
       lengthIs = l .1;
@@ -96,10 +98,8 @@ header-fits b e =
       reach = product (pieces .is) (l .1) (leZ-true _ _ (n .1));
       spacing = count 3 10 50 (omega arith) (field 3 (omega arith));
       wide = count 4 300 2079 (omega arith) (field 4 (omega arith));
-      kind = kind;
-      value = value .0;
-      valueFits = fits;
-      dynamic = value .1;
+      dynamic = by-question _ greatest (least kind greatest);
+      fourth = λ e. spans kind e .0;
       effects = counts .0;
       rows = counts .1;
       records = counts .2;
@@ -110,13 +110,51 @@ header-fits b e =
     long = header-long (headerOf b)
 
     word : (q : ℕ) → q < 10 → wordAt (sectionOf b Head) q ≡ wordAt b q
-    word = head-word b
+    word q h = head-word b q (early b h)
 
-    field : (q : ℕ) → q < 10 → getD (format (headerOf b) Head .fields) q free (itemFrom (sectionOf b Head) 0 0) (wordAt (sectionOf b Head) (0 + q)) ≡ true
-    field q h = rw (mul-zero (length (format (headerOf b) Head .fields))) at (fits (format (headerOf b) Head) (sectionOf b Head) (moved-none 0 _ (or-none _ none e .0)) 0 q (omega arith) (omega (arith, long)))
+    Admitted : ℕ → Type 0
+    Admitted q = getD (format (headerOf b) Head .fields) q free (itemFrom (sectionOf b Head) 0 0) (wordAt (sectionOf b Head) (0 + q)) ≡ true
+
+    admitted : (q : ℕ) → q < words (headerOf b) Head → Admitted q
+    admitted q h = rw (mul-zero (length (format (headerOf b) Head .fields))) at (fits (format (headerOf b) Head) (sectionOf b Head) (moved-none 0 _ (or-none _ none e .0)) 0 q (omega arith) (omega arith))
+
+    field : (q : ℕ) → q < 10 → Admitted q
+    field q h = admitted q (early b h)
 
     count : (q lo hi : ℕ) → q < 10 → between (pos lo) (pos hi) (wordAt (sectionOf b Head) q) ≡ true → Count lo hi (wordAt b q)
     count q lo hi h t = between-count lo hi (wordAt b q) (rw (word q h) at t)
+
+    -- no edition has a kind past 4
+    four : Count 1 (dynamicKinds (headerOf b .edition)) (wordAt b 5) → Count 1 4 (wordAt b 5)
+    four = go (headerOf b .edition)
+      where
+        go : (e : Edition) → Count 1 (dynamicKinds e) (wordAt b 5) → Count 1 4 (wordAt b 5)
+        go First c = wider c (omega arith) (omega arith)
+        go Second c = c
+        go Fourth c = wider c (omega arith) (omega arith)
+
+    -- kind 4 is edition 2's, where word 10 is a span
+    spans : Count 1 (dynamicKinds (headerOf b .edition)) (wordAt b 5) → countAt b 5 ≡ 4 → (headerOf b .edition ≡ Second) × Count 1 2000 (wordAt b 10)
+    spans c k = go (headerOf b .edition) refl c
+      where
+        span-word : headerOf b .edition ≡ Second → Count 1 2000 (wordAt b 10)
+        span-word s =
+            let there : 10 < words (headerOf b) Head = rw s (omega arith) in
+            let f : leastSpanFits (wordAt (sectionOf b Head) 5) (wordAt (sectionOf b Head) 10) ≡ true = subst (λ (e : Edition). getD (tableCounts e) 3 free (itemFrom (sectionOf b Head) 0 0) (wordAt (sectionOf b Head) 10) ≡ true) s (admitted 10 there) in
+            let g : leastSpanFits (pos 4) (wordAt b 10) ≡ true = rw (word 5 (omega arith), head-word b 10 there, c .is, k) at f in
+            between-count 1 2000 (wordAt b 10) g
+
+        go : (e : Edition) → headerOf b .edition ≡ e → Count 1 (dynamicKinds e) (wordAt b 5) → (headerOf b .edition ≡ Second) × Count 1 2000 (wordAt b 10)
+        go First s d = absurd (omega (arith, d .most))
+        go Second s d = (s, span-word s)
+        go Fourth s d = absurd (omega (arith, d .most))
+
+    -- the value for least
+    least : Count 1 (dynamicKinds (headerOf b .edition)) (wordAt b 5) → DynamicRight (countAt b 5) (countAt b 6) → DynamicRight (countAt b 5) (dynamicValue b (headerOf b) Least)
+    least c d =
+        by-test (eqb (countAt b 5) 4) (λ t. DynamicRight (countAt b 5) (if t then countAt b 10 else countAt b 6))
+        (λ t. let k = eqb-true (countAt b 5) 4 t in let l = spans c k .1 in span k (l .least) (l .most))
+        (λ _. d)
 
     -- words 7, 8 and 9, by edition
     counts : Count 0 16 (wordAt b 7) × Count 0 32 (wordAt b 8) × Count 0 512 (wordAt b 9) × (profileOf (headerOf b .edition) ≡ rural → countAt b 7 ≡ 11)
@@ -143,7 +181,7 @@ header-fits b e =
 -- a rural bridge without fault 11 is at most 430 cm wide
 pub rural-width : (b : List ℕ) → fault11 b ≡ none → profileOf (headerOf b .edition) ≡ rural → countAt b 4 ≤ 430
 unfolding fault11
-rural-width b e r = rw (head-word b 4 (omega arith)) at (go (profileOf (headerOf b .edition)) r e)
+rural-width b e r = rw (head-word b 4 (early b (omega arith))) at (go (profileOf (headerOf b .edition)) r e)
   where
     s : List ℕ
     s = sectionOf b Head
@@ -171,3 +209,11 @@ unfolding dynamicFactor
 dynamic-range kind value (read e l h) = rw e (l, h)
 dynamic-range kind value (buried e f) = rw e (omega arith)
 dynamic-range kind value (culvert e h) = rw e (omega arith)
+dynamic-range kind value (span e l h) = rw e (span-range value)
+
+-- and its value at most 5000
+pub dynamic-most : {kind value : ℕ} → DynamicRight kind value → value ≤ 5000
+dynamic-most (read e l h) = omega arith
+dynamic-most (buried e f) = omega arith
+dynamic-most (culvert e h) = h
+dynamic-most (span e l h) = omega arith

@@ -8,6 +8,7 @@ pub mod Counts
 pub mod Editions
 pub mod EditionOne
 pub mod Verdict
+pub mod Dynamic
 pub mod HeaderLimits
 pub mod LineLimits
 pub mod TrainLimits

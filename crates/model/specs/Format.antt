@@ -46,7 +46,7 @@ headerOf b = record {
   spacing = countAt b 3;  -- g, transverse spacing in cm
   width = countAt b 4;  -- W, carriageway width in cm
   kind = countAt b 5;  -- dynamic kind
-  value = countAt b 6;  -- and value
+  value = countAt b 6;  -- and value, with kind 4 the span for greatest
   effects = countAt b 7;  -- E
   rows = countAt b 8;  -- R
   records = countAt b 9;  -- C
@@ -67,10 +67,25 @@ lineLayout n = n of
     ∷ within 5000  -- right ordinate
     ∷ []
 
--- kind 1 with 1000 to 1300; kind 2 with 0; kind 3 with 0 to 5000 (another kind is its own word's fault)
+-- the last dynamic kind of an edition
+abbrev pub dynamicKinds : Edition → ℕ
+dynamicKinds First = 3
+dynamicKinds Second = 4
+dynamicKinds Fourth = 3
+
+-- a span L in dm
+abbrev pub spanFits : ℤ → Bool
+spanFits l = between (pos 1) (pos 2000) l
+
+-- kind 1 with 1000 to 1300; kind 2 with 0; kind 3 with 0 to 5000; kind 4 with a span, for greatest (another kind is its own word's fault)
 abbrev pub dynamicFits : (kind value : ℤ) → Bool
 dynamicFits kind value =
-    if is 1 kind then between (pos 1000) (pos 1300) value else (if is 2 kind then is 0 value else between (pos 0) (pos 5000) value)
+    if is 1 kind then between (pos 1000) (pos 1300) value
+    else (if is 2 kind then is 0 value else (if is 3 kind then between (pos 0) (pos 5000) value else spanFits value))
+
+-- kind 4 with a span, for least; another kind with 0
+abbrev pub leastSpanFits : (kind value : ℤ) → Bool
+leastSpanFits kind value = if is 4 kind then spanFits value else is 0 value
 
 -- M: W / g rounded up
 abbrev pub spaces : ℕ → ℕ → ℕ
@@ -89,7 +104,7 @@ abbrev pub tableCounts : Edition → List Field
 tableCounts First = listedCounts []
 tableCounts Second =
     listedCounts
-    (range 0 0  -- word 10: 0
+    (given 5 (λ kind item value. leastSpanFits kind value)  -- word 10: the span for least
     ∷ range 0 0  -- word 11: 0
     ∷ [])
 tableCounts Fourth =
@@ -124,7 +139,7 @@ format head Head = 1 of
     ∷ given 1 pieceCount  -- N
     ∷ range 10 50  -- g
     ∷ range 300 2079  -- W
-    ∷ range 1 3  -- dynamic kind
+    ∷ range 1 (dynamicKinds (head .edition))  -- dynamic kind
     ∷ given 5 (λ kind item value. dynamicFits kind value)  -- dynamic value
     ∷ tableCounts (head .edition)  -- E, R, C and what the edition adds
 format head Line = lineLayout (head .pieces)

@@ -1,15 +1,19 @@
 use mathlib.Core.Path.{_≡_, sym, _∙_, subst}
 use mathlib.Core.List.{List}
 use Prim.Native.Nat.{ℕ, _≤_}
+use native.Mathlib.Omega.{arith}
 use lib.Dec.{lit≤}
 use Rattle.exact.specs.declared.Question.{Question}
+use Rattle.exact.specs.declared.Question.the-variants.{Greatest, Least}
 use Rattle.exact.proofs.Extremes.{by-question}
-use Rattle.model.specs.Job.{Job}
-use Rattle.model.specs.Decode.{decode}
+use Rattle.model.specs.Job.{Job, rural}
+use Rattle.model.specs.Format.{profileOf}
+use Rattle.model.specs.Dynamic.{dynamicFactor}
+use Rattle.model.specs.Decode.{decode, dynamicValue}
 use Rattle.model.specs.Line.{HN, HO}
 use Rattle.magnitudes.specs.Magnitudes.{hnLineMost, hoLineMost}
 use Rattle.centres.specs.Transverse.{TransverseFits}
-use Rattle.centres.specs.Spans.{Spanned}
+use Rattle.centres.specs.Spans.{AcrossFits, Spanned}
 use Rattle.lanes.specs.Entries.{LineEffectsFit}
 use Rattle.lanes.specs.Loadings.{effectsOf}
 use Rattle.lanes.specs.declared.traffic.Effects.{Effects}
@@ -26,19 +30,22 @@ effect-requires-4 : tie.Need-effect-requires-4
 effect-requires-4 c κs = c .before .before .before .before .pre .1 .1 .near
 
 factor-requires : tie.Need-factor-requires
-factor-requires c κs = dynamic-limits (c .before .before .before .before .before .pre .0)
+factor-requires c κs = dynamic-limits (c .before .before .before .before .before .pre .0) Greatest
+
+factor-requires-2 : tie.Need-factor-requires-2
+factor-requires-2 c κs = dynamic-limits (c .before .before .before .before .before .before .pre .0) Least
 
 section-requires : tie.Need-section-requires
-section-requires c κs = sized (c .before .before .before .before .before .before .pre .0)
+section-requires c κs = sized (c .before .before .before .before .before .before .before .pre .0)
 
 across-of-requires : tie.Need-across-of-requires
 across-of-requires c κs =
-    let s = c .before .before .before .before .before .before .before in
+    let s = c .before .before .before .before .before .before .before .before in
     subst (λ (l : List ℕ). TransverseFits l (s .args .head .width) (s .args .head .spacing)) (sym (c .section .ensures)) (across-fits (s .pre .0))
 
 module _ (c : tie.After-across-of) where
   abbrev formed : tie.After-effect4
-  formed = c .before .before .before
+  formed = c .before .before .before .before
 
   abbrev two : tie.After-effect2
   two = formed .before .before
@@ -73,15 +80,19 @@ module _ (c : tie.After-across-of) where
   over : Spanned job (c .across-of .result)
   over = spanned (st .pre .0) (c .before .section .ensures) (c .across-of .ensures)
 
-  limits : (1000 ≤ c .before .before .factor .result) × (c .before .before .factor .result ≤ 1300)
-  limits = subst (λ (d : ℕ). (1000 ≤ d) × (d ≤ 1300)) (sym (c .before .before .factor .ensures)) (dynamic (st .pre .0))
+  -- both dynamic factors
+  range : (q : Question) → (1000 ≤ dynamicFactor (st .args .head .kind) (dynamicValue (st .args .job .now) (st .args .head) q)) × (dynamicFactor (st .args .head .kind) (dynamicValue (st .args .job .now) (st .args .head) q) ≤ 1300)
+  range = dynamic (st .pre .0)
 
-  factor : (q : Question) → c .before .before .factor .result ≡ job .dynamic q
-  factor = factor-is (st .pre .0) (c .before .before .factor .ensures)
+  -- HN's line effects fit where HO's are asked for, so only what is ensured tells them apart
+  ready : {d : ℕ} → (1000 ≤ d) × (d ≤ 1300) → AcrossFits (c .across-of .result) × (profileOf (st .args .head .edition) ≡ rural → c .across-of .result .lanes ≡ 1) × (1000 ≤ d) × (d ≤ 1300) × LineEffectsFit hnLineMost hn × LineEffectsFit hoLineMost ho
+  ready d = (c .across-of .ensures .fits, λ r. over .lanes ∙ one-lane (st .pre .0) r, d .0, d .1, hn-fit, search (hn-wide, ho-fit))
 
--- HN's line effects fit where HO's are asked for, so only what is ensured tells them apart
 both-requires : tie.Need-both-requires
-both-requires c κs = (c .across-of .ensures .fits, λ r. over c .lanes ∙ one-lane (st c .pre .0) r, limits c .0, limits c .1, hn-fit c, search (hn-wide c, ho-fit c))
+both-requires c κs = let e = c .before .before .before .factor .ensures in ready c (omega (arith, range c Greatest, range c Least))
+
+both-requires-2 : tie.Need-both-requires-2
+both-requires-2 c κs = let e = c .before .before .before .factor2 .ensures in ready (c .before) (omega (arith, range (c .before) Greatest, range (c .before) Least))
 
 returns : tie.Need-returns
 returns c =
@@ -90,8 +101,8 @@ returns c =
     let most = found .before .both .ensures in
     let lowest = found .both2 .ensures in
     let loads = profile-is (st at .pre .0) in
-    let g = most .2 (job at) (over at) loads (factor at _) (hn-are at) (ho-are at) in
-    let l = lowest .2 (job at) (over at) loads (factor at _) (hn-are at) (ho-are at) in
+    let g = most .2 (job at) (over at) loads (factor-is (st at .pre .0) Greatest (at .before .before .before .factor .ensures)) (hn-are at) (ho-are at) in
+    let l = lowest .2 (job at) (over at) loads (factor-is (st at .pre .0) Least (at .before .before .factor2 .ensures)) (hn-are at) (ho-are at) in
     record {
       normal = record { placed = by-question _ (g .0) (l .0); near = by-question _ (most .0) (lowest .0) };
       overload = record { placed = by-question _ (g .1) (l .1); near = by-question _ (most .1) (lowest .1) };
@@ -101,4 +112,4 @@ returns c =
 pub values-spec : {M : Type 1} → statement M
 values-spec =
     tie.close
-    (tie.spec (λ c κs. c .before .pre .1 .0 .near) (λ c κs. c .before .before .pre .1 .1 .near) effect-requires-3 effect-requires-4 factor-requires section-requires across-of-requires both-requires (λ c κs. both-requires (c .before) κs) returns)
+    (tie.spec (λ c κs. c .before .pre .1 .0 .near) (λ c κs. c .before .before .pre .1 .1 .near) effect-requires-3 effect-requires-4 factor-requires factor-requires-2 section-requires across-of-requires both-requires both-requires-2 returns)

@@ -32,9 +32,10 @@ returns c =
       g .before .before .before .in-range2 .ensures,
       g .before .before .before .before .field2 .ensures,
       v .in-range .ensures,
-      v .before .field .ensures,
-      v .before .before .counts-misfit .ensures,
-      v .before .before .before .dynamic-fits .ensures,
+      v .before .dynamic-kinds .ensures,
+      v .before .before .field .ensures,
+      v .before .before .before .counts-misfit .ensures,
+      v .before .before .before .before .dynamic-fits .ensures,
     )
     refl
 
@@ -48,4 +49,4 @@ at st p h = omega (arith, long st)
 pub header-misfit-spec : {M : Type 1} → statement M
 header-misfit-spec =
     tie.close
-    (tie.spec (λ c κs. long (c .before)) (λ c κs. search needs) (λ c κs. search needs) (λ c κs. at (c .before .before .before .before) 5 (omega arith)) (λ c κs. search needs) (λ c κs. at (c .before .before .before .before .before .before) 4 (omega arith)) (λ c κs. search needs) (λ c κs. at (c .before .before .before .before .before .before .before .before) 3 (omega arith)) (λ c κs. search needs) (λ c κs. at (c .before .before .before .before .before .before .before .before .before .before) 1 (omega arith)) (λ c κs. at (c .before .before .before .before .before .before .before .before .before .before .before) 2 (omega arith)) pieces-fit-requires (λ c κs. search needs) (λ c κs. search needs) (λ c κs. search needs) returns)
+    (tie.spec (λ c κs. long (c .before)) (λ c κs. search needs) (λ c κs. search needs) (λ c κs. search needs) (λ c κs. at (c .before .before .before .before .before) 5 (omega arith)) (λ c κs. search needs) (λ c κs. at (c .before .before .before .before .before .before .before) 4 (omega arith)) (λ c κs. search needs) (λ c κs. at (c .before .before .before .before .before .before .before .before .before) 3 (omega arith)) (λ c κs. search needs) (λ c κs. at (c .before .before .before .before .before .before .before .before .before .before .before) 1 (omega arith)) (λ c κs. at (c .before .before .before .before .before .before .before .before .before .before .before .before) 2 (omega arith)) pieces-fit-requires (λ c κs. search needs) (λ c κs. search needs) (λ c κs. search needs) returns)

@@ -1,16 +1,17 @@
 use mathlib.Core.Path.{refl}
 use mathlib.Core.List.{[], _∷_}
 use borrow.Author.Needs.{needs}
-use Rattle.words.specs.Fields.{range}
+use Rattle.words.specs.Fields.{range, given}
+use Rattle.model.specs.Format.{leastSpanFits}
 use Rattle.limits.proofs.second_counts.Statement.{statement}
 use Rattle.limits.proofs.second_counts.Tie as tie
 
 returns : tie.Need-returns
 returns c =
-    c .listed-counts .ensures (range 0 0 ∷ range 0 0 ∷ [])
+    c .listed-counts .ensures (given 5 (λ kind item value. leastSpanFits kind value) ∷ range 0 0 ∷ [])
     (rw (
       c .before .field2 .ensures,
-      c .before .before .in-range2 .ensures,
+      c .before .before .least-span-fits .ensures,
       c .before .before .before .field .ensures,
       c .before .before .before .before .in-range .ensures,
     )
