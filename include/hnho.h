@@ -127,6 +127,15 @@ enum hnho_barriers {
   HNHO_BARRIERS_TRAFFIC = 3      /* 370 to 430 */
 };
 
+/* The dynamic kinds, with the value that goes with each. */
+enum hnho_dynamic_kind {
+  HNHO_DYNAMIC_FACTOR = 1,        /* the factor in thousandths, 1000 to 1300 */
+  HNHO_DYNAMIC_BELOW_GROUND = 2,  /* 0: the factor is 1000 */
+  HNHO_DYNAMIC_FILL = 3,          /* a culvert top slab under so much fill in cm, 0 to 5000: 1300 less 3 a cm, at least 1000 */
+  HNHO_DYNAMIC_SPANS = 4          /* edition 2: a span for each question in dm, 1 to 2000: 1300 to 120 dm, beyond that
+                                     1000 + 150000 / (span + 380), rounded up */
+};
+
 /* The words of a job, by place.
  *
  *   0  edition: 1, 2 for effects in N.U, or 4 for a farm bridge
@@ -134,13 +143,14 @@ enum hnho_barriers {
  *   2  N, pieces: 1 to 1000, N times h at most 1000
  *   3  g, spacing of the transverse ordinates in cm: 10 to 50
  *   4  W, carriageway width in cm: 300 to 2079
- *   5  dynamic kind, 6 its value: kind 1 with 1000 to 1300 (thousandths); kind 2 (below ground) with 0; kind 3 (culvert top slab)
- *      with the fill in cm, 0 to 5000
+ *   5  dynamic kind, of enum hnho_dynamic_kind: 1 to 3, in edition 2 to 4
+ *   6  its value; with kind 4 the span for greatest
  *   7  E, effects: 0 to 16; 11 in edition 4
  *   8  R, rows: 1 to 32; 0 in edition 4
  *   9  C, chain records: 0 to 512; 0 in edition 4
  *  10  edition 4: of enum hnho_barriers. W is then the clear width and within the barriers' band, else refusal 11
- *  10, 11  edition 2: reserved, 0
+ *  10  edition 2: with kind 4 the span for least, else 0
+ *  11  edition 2: reserved, 0
  *
  * After the header, from word 10 on, in edition 4 from word 11 on, in edition 2 from word 12 on, one section after the other:
  *   2 N    ordinates of the influence line, a left and a right one a piece: -5000 to 5000, in a unit U of the sender's
@@ -168,6 +178,7 @@ enum hnho_word_place {
   HNHO_WORD_E = 7,
   HNHO_WORD_R = 8,
   HNHO_WORD_C = 9,
+  HNHO_WORD_LEAST_SPAN = 10,   /* in edition 2 */
   HNHO_WORD_BARRIERS = 10,     /* in edition 4 */
   HNHO_HEADER_WORDS = 10,      /* of edition 1 */
   HNHO_NEWTONS_HEADER_WORDS = 12,  /* of edition 2 */

@@ -161,7 +161,7 @@ away=$(mktemp -d) || exit 2
 trap 'rm -rf "$away"' EXIT
 step 'an installation' install_in "$away" first
 step 'moving the installation' mv "$away/first" "$away/moved"
-step 'the release that HOST.md names' env PKG_CONFIG_PATH="$away/moved/lib/pkgconfig" pkg-config --atleast-version=1.2 hnho
+step 'the release that HOST.md names' env PKG_CONFIG_PATH="$away/moved/lib/pkgconfig" pkg-config --atleast-version=1.3 hnho
 step 'a copy of the examples' cp examples/host.c examples/truck.c examples/arch.c "$away"
 for compiler in 'gcc -std=c99' 'g++ -x c++ -std=c++98' 'g++ -x c++ -std=c++20'; do
   for example in host truck; do

@@ -1,6 +1,6 @@
 /* The edges of hnho_solve: null pointers, odd lengths, short, exact and long buffers, one refusal of each number; every number of
- * Job A's account and of a farm job's; the limits of editions 2 and 4; and the header's own functions. Expected numbers are the
- * documents' or worked out from them by hand.
+ * Job A's account and of a farm job's; the limits of editions 2 and 4, and spans by sign; and the header's own functions. Expected
+ * numbers are the documents' or worked out from them by hand.
  * Every buffer has guard bytes on both sides; every byte that must keep its contents is looked at.
  *
  *   host_edges JOB-A
@@ -174,6 +174,11 @@ static void expect_farm_job(struct buffer patch, struct buffer account) {
 static int64_t wide_value[WIDE_MOST_EFFECTS];
 static int32_t wide_effects, wide_mark, wide_factor;
 
+/* Both ordinates of its line's one piece, 8 or -8; its dynamic kind, with words 6 and 10; and the factors that are due in thousandths,
+ * for greatest and for least. */
+static int32_t wide_ordinate = 8, wide_kind = HNHO_DYNAMIC_BELOW_GROUND, wide_spans[2];
+static int64_t wide_dynamic[2] = {1000, 1000};
+
 /* A value of the job: what its effects on one side of 0 come to where they may be left out, else all of them, and the traffic. Which
  * are left out is known but for those of 0. */
 static void expect_wide_governing(struct hnho_governing g, int side, int64_t row, int64_t traffic, const char *what) {
@@ -193,24 +198,29 @@ static void expect_wide_governing(struct hnho_governing g, int side, int64_t row
   expect(g.k == 0, what);
 }
 
-/* The account of that job. Its line is the farm job's, with W 300, all transverse ordinates 1000 and the dynamic factor 1: HN is 18400,
- * HO 7 * 50 * 16 + 3200 * 8 = 31200, times 1000 * 20 * 1000 * 3 / 800000 = 75 are 1380000 and 2340000 N.U. Row 1 is service without
+/* The account of that job. W is 300 and all transverse ordinates are 1000. On a line of 8 HN is 7 * 50 * 16 + 1600 * 8 = 18400, for only
+ * one axle is on, and HO 7 * 50 * 16 + 3200 * 8 = 31200; times 1000 * 20 * 3 / 800000 = 3 / 40 they are 1380 and 2340 N.U a thousandth
+ * of the dynamic factor, all of it for greatest. On a line of -8 it is the same below 0, all for least. Row 1 is service without
  * traffic, row 2 ultimate with overload at 3000. */
 static void expect_wide_job(struct buffer patch, struct buffer account) {
+  const int raised = wide_ordinate > 0;
+  const int64_t greatest = raised ? wide_dynamic[0] : 0, least = raised ? 0 : -wide_dynamic[1];
+  const struct hnho_placement *ho;
   struct hnho_account a;
-  expect(all_are(patch.bytes, 0, 1, HNHO_PATCH_RAISING), "the patch byte is not the job's");
+  expect(all_are(patch.bytes, 0, 1, raised ? HNHO_PATCH_RAISING : HNHO_PATCH_LOWERING), "the patch byte is not the job's");
   expect(all_are(patch.bytes, 1, patch.n, OLD_PATCH), "bytes past N changed");
   expect(all_are(account.bytes, HNHO_ACCOUNT_BYTES, account.n, OLD_ACCOUNT), "bytes past the account changed");
   hnho_read_account(account.bytes, &a);
-  expect(a.normal_greatest == 1380000 && a.normal_least == 0, "the normal values");
-  expect(a.overload_greatest == 2340000 && a.overload_least == 0, "the overload values");
-  expect(a.overload_greatest_placement.set == 1 && a.overload_greatest_placement.lane[0].entry == HNHO_HO_RAISING, "the HO lane");
+  expect(a.normal_greatest == 1380 * greatest && a.normal_least == 1380 * least, "the normal values");
+  expect(a.overload_greatest == 2340 * greatest && a.overload_least == 2340 * least, "the overload values");
+  ho = raised ? &a.overload_greatest_placement : &a.overload_least_placement;
+  expect(ho->set == 1 && ho->lane[0].entry == (raised ? HNHO_HO_RAISING : HNHO_HO_LOWERING), "the HO lane");
   expect(a.service.reported == 1 && a.ultimate.reported == 1, "a state");
   expect_wide_governing(a.service.greatest, 1, 1, 0, "service greatest");
   expect_wide_governing(a.service.least, -1, 1, 0, "service least");
-  expect_wide_governing(a.ultimate.greatest, 1, 2, INT64_C(3000) * 2340000, "ultimate greatest");
-  expect_wide_governing(a.ultimate.least, -1, 2, 0, "ultimate least");
-  expect(a.service.greatest.unladen == 0 && a.ultimate.greatest.unladen == 0, "the traffic");
+  expect_wide_governing(a.ultimate.greatest, 1, 2, 3000 * 2340 * greatest, "ultimate greatest");
+  expect_wide_governing(a.ultimate.least, -1, 2, 3000 * 2340 * least, "ultimate least");
+  expect(a.service.greatest.unladen == 0 && (raised ? a.ultimate.greatest : a.ultimate.least).unladen == 0, "the traffic");
   expect(a.first_lanes == 1 && a.second_lanes == 0 && a.records_walked == 0, "lanes and records");
 }
 
@@ -458,14 +468,16 @@ static void farm_jobs(void) {
 
 /* Packs the job of edition 2; its words. */
 static size_t pack_wide(uint8_t *job) {
-  const int32_t header[HNHO_NEWTONS_HEADER_WORDS] = {HNHO_EDITION_NEWTONS, 50, 1, 50, 300, 2, 0, wide_effects, 2, wide_effects, 0, 0};
+  const int32_t header[HNHO_NEWTONS_HEADER_WORDS] = {
+    HNHO_EDITION_NEWTONS, 50, 1, 50, 300, wide_kind, wide_spans[0], wide_effects, 2, wide_effects, wide_spans[1], 0
+  };
   const int32_t rows[] = {1, 0, 0, wide_effects > 0, 2, 2, 3000, wide_effects > 0};
   size_t words = 0, i;
   int32_t effect;
   for (i = 0; i < HNHO_NEWTONS_HEADER_WORDS; i++)
     hnho_put_word(job, words++, header[i]);
   for (i = 0; i < 2; i++)
-    hnho_put_word(job, words++, 8);
+    hnho_put_word(job, words++, wide_ordinate);
   for (i = 0; i < 7; i++)
     hnho_put_word(job, words++, 1000);
   for (effect = 0; effect < wide_effects; effect++, words += 3) {
@@ -616,6 +628,86 @@ static void wide_table_limits(void) {
   call_wide_changed("an effect twice, past row 1", record + 3, 1, row + 3, 0, HNHO_EFFECT_TWICE, row + 4);
 }
 
+/* Every pair of spans at which the factor's curve ends, begins or is whole, and next to these, each question with its own. */
+static void span_factors(void) {
+  static const struct {
+    int32_t span;
+    int64_t thousandths;
+  } due[] = {
+    {1, 1300}, {2, 1300}, {12, 1300}, {119, 1300}, {120, 1300},
+    {121, 1300}, /* 150000 / 501 = 299.4 */
+    {122, 1299}, /* 150000 / 502 = 298.8 */
+    {123, 1299}, /* 150000 / 503 = 298.2 */
+    {219, 1251}, {220, 1250}, {221, 1250}, /* 150000 / 600 = 250 */
+    {1619, 1076}, {1620, 1075}, {1621, 1075}, /* 150000 / 2000 = 75 */
+    {1999, 1064}, {2000, 1064} /* 150000 / 2380 = 63.03 */
+  };
+  const size_t spans = sizeof due / sizeof *due;
+  size_t greatest, least;
+  for (greatest = 0; greatest < spans; greatest++)
+    for (least = 0; least < spans; least++)
+      for (wide_ordinate = -8; wide_ordinate <= 8; wide_ordinate += 16) {
+        wide_spans[0] = due[greatest].span;
+        wide_spans[1] = due[least].span;
+        wide_dynamic[0] = due[greatest].thousandths;
+        wide_dynamic[1] = due[least].thousandths;
+        call_wide("spans by sign", HNHO_ACCEPTED, 0);
+      }
+  wide_ordinate = 8;
+}
+
+/* 2 at a kind that is none, then at a span that is none, then at a later word. */
+static void span_limits(void) {
+  static const int32_t no_spans[] = {0, -1, 2001, 65656, INT32_MIN, INT32_MAX};
+  static const int32_t no_kinds[] = {0, 5, -4, 260, INT32_MIN, INT32_MAX};
+  const size_t greatest = HNHO_WORD_DYNAMIC_VALUE, least = HNHO_WORD_LEAST_SPAN;
+  size_t word, i, j;
+  for (i = 0; i < sizeof no_spans / sizeof *no_spans; i++) {
+    int32_t none = no_spans[i];
+    call_wide_changed("no span for greatest", greatest, none, greatest, none, HNHO_HEADER_LIMIT, greatest);
+    call_wide_changed("no span for least", least, none, least, none, HNHO_HEADER_LIMIT, least);
+    call_wide_changed("no span for either", greatest, none, least, none, HNHO_HEADER_LIMIT, greatest);
+    for (word = HNHO_WORD_H; word < HNHO_WORD_DYNAMIC_KIND; word++)
+      call_wide_changed("no span for greatest and a lower word", word, -1, greatest, none, HNHO_HEADER_LIMIT, word);
+    for (word = HNHO_WORD_H; word < HNHO_WORD_LEAST_SPAN; word++)
+      call_wide_changed("no span for least and a lower word", word, -1, least, none, HNHO_HEADER_LIMIT, word);
+    call_wide_changed("no span for least and word 11", least, none, 11, 1, HNHO_HEADER_LIMIT, least);
+    call_wide_changed("no span for least and an ordinate", least, none, WIDE_LINE_AT, 5001, HNHO_HEADER_LIMIT, least);
+    for (j = 0; j < sizeof no_kinds / sizeof *no_kinds; j++) {
+      call_wide_changed("no kind and no span for greatest", HNHO_WORD_DYNAMIC_KIND, no_kinds[j], greatest, none, HNHO_HEADER_LIMIT,
+                        HNHO_WORD_DYNAMIC_KIND);
+      call_wide_changed("no kind and no span for least", HNHO_WORD_DYNAMIC_KIND, no_kinds[j], least, none, HNHO_HEADER_LIMIT,
+                        HNHO_WORD_DYNAMIC_KIND);
+    }
+  }
+  call_wide_changed("word 11 with spans by sign", 11, 1, 11, 1, HNHO_HEADER_LIMIT, 11);
+}
+
+/* Kinds 1 to 3 with a value of their own have 0 for word 10, and editions 1 and 4 no kind 4. */
+static void kinds_without_spans(void) {
+  static const struct {
+    int32_t kind, value;
+    int64_t thousandths;
+  } kinds[] = {{HNHO_DYNAMIC_FACTOR, 1123, 1123}, {HNHO_DYNAMIC_BELOW_GROUND, 0, 1000}, {HNHO_DYNAMIC_FILL, 7, 1279}};
+  static const int32_t not_0[] = {1, -1, 120, 2000, INT32_MIN, INT32_MAX};
+  size_t i, j;
+  for (i = 0; i < sizeof kinds / sizeof *kinds; i++) {
+    wide_kind = kinds[i].kind;
+    wide_spans[0] = kinds[i].value;
+    wide_spans[1] = 0;
+    wide_dynamic[0] = wide_dynamic[1] = kinds[i].thousandths;
+    call_wide("a kind without spans", HNHO_ACCEPTED, 0);
+    wide_ordinate = -8;
+    call_wide("a kind without spans, for least", HNHO_ACCEPTED, 0);
+    wide_ordinate = 8;
+    for (j = 0; j < sizeof not_0 / sizeof *not_0; j++)
+      call_wide_changed("a kind without spans, and word 10", HNHO_WORD_LEAST_SPAN, not_0[j], 11, 1, HNHO_HEADER_LIMIT,
+                        HNHO_WORD_LEAST_SPAN);
+  }
+  call_changed("kind 4 in edition 1", HNHO_WORD_DYNAMIC_KIND, HNHO_DYNAMIC_SPANS, HNHO_HEADER_LIMIT, HNHO_WORD_DYNAMIC_KIND);
+  call_farm_changed("kind 4 in edition 4", HNHO_WORD_DYNAMIC_KIND, HNHO_DYNAMIC_SPANS, HNHO_HEADER_LIMIT, HNHO_WORD_DYNAMIC_KIND);
+}
+
 static void wide_jobs(void) {
   expect_accepted = expect_wide_job;
   wide_values();
@@ -629,6 +721,10 @@ static void wide_jobs(void) {
   wide_header();
   wide_effect_limits();
   wide_table_limits();
+  wide_kind = HNHO_DYNAMIC_SPANS;
+  span_factors();
+  span_limits();
+  kinds_without_spans();
   expect_accepted = expect_job_a;
 }
 
