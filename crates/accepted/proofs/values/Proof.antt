@@ -29,11 +29,12 @@ effect-requires-3 c κs = c .before .before .before .pre .1 .0 .near
 effect-requires-4 : tie.Need-effect-requires-4
 effect-requires-4 c κs = c .before .before .before .before .pre .1 .1 .near
 
+-- the limits of both questions, so that only what is ensured tells their factors apart
 factor-requires : tie.Need-factor-requires
-factor-requires c κs = dynamic-limits (c .before .before .before .before .before .pre .0) Greatest
+factor-requires c κs = let r = c .before .before .before .before .before .pre .0 in search (dynamic-limits r Greatest, dynamic-limits r Least)
 
 factor-requires-2 : tie.Need-factor-requires-2
-factor-requires-2 c κs = dynamic-limits (c .before .before .before .before .before .before .pre .0) Least
+factor-requires-2 c κs = let r = c .before .before .before .before .before .before .pre .0 in search (dynamic-limits r Greatest, dynamic-limits r Least)
 
 section-requires : tie.Need-section-requires
 section-requires c κs = sized (c .before .before .before .before .before .before .before .pre .0)
@@ -84,15 +85,16 @@ module _ (c : tie.After-across-of) where
   range : (q : Question) → (1000 ≤ dynamicFactor (st .args .head .kind) (dynamicValue (st .args .job .now) (st .args .head) q)) × (dynamicFactor (st .args .head .kind) (dynamicValue (st .args .job .now) (st .args .head) q) ≤ 1300)
   range = dynamic (st .pre .0)
 
-  -- HN's line effects fit where HO's are asked for, so only what is ensured tells them apart
-  ready : {d : ℕ} → (1000 ≤ d) × (d ≤ 1300) → AcrossFits (c .across-of .result) × (profileOf (st .args .head .edition) ≡ rural → c .across-of .result .lanes ≡ 1) × (1000 ≤ d) × (d ≤ 1300) × LineEffectsFit hnLineMost hn × LineEffectsFit hoLineMost ho
-  ready d = (c .across-of .ensures .fits, λ r. over .lanes ∙ one-lane (st .pre .0) r, d .0, d .1, hn-fit, search (hn-wide, ho-fit))
+  -- what is required with a factor in range and line effects that fit where HO's are asked for
+  ready : {d : ℕ} {x : Effects} → (1000 ≤ d) × (d ≤ 1300) → LineEffectsFit hoLineMost x → AcrossFits (c .across-of .result) × (profileOf (st .args .head .edition) ≡ rural → c .across-of .result .lanes ≡ 1) × (1000 ≤ d) × (d ≤ 1300) × LineEffectsFit hnLineMost hn × LineEffectsFit hoLineMost x
+  ready d x = (c .across-of .ensures .fits, λ r. over .lanes ∙ one-lane (st .pre .0) r, d .0, d .1, hn-fit, x)
 
+-- HN's line effects fit there too, so only what is ensured tells them apart
 both-requires : tie.Need-both-requires
-both-requires c κs = let e = c .before .before .before .factor .ensures in ready c (omega (arith, range c Greatest, range c Least))
+both-requires c κs = let e = c .before .before .before .factor .ensures in ready c (omega (arith, range c Greatest, range c Least)) (search (hn-wide c, ho-fit c))
 
 both-requires-2 : tie.Need-both-requires-2
-both-requires-2 c κs = let e = c .before .before .before .factor2 .ensures in ready (c .before) (omega (arith, range (c .before) Greatest, range (c .before) Least))
+both-requires-2 c κs = let at = c .before in let e = at .before .before .factor2 .ensures in ready at (omega (arith, range at Greatest, range at Least)) (search (hn-wide at, ho-fit at))
 
 returns : tie.Need-returns
 returns c =
