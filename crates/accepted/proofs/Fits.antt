@@ -87,12 +87,13 @@ module _ {b : List ℕ} {head : Header} (ready : Ready b head) where
   unfolding decode
   profile-is = own (λ h. profileOf (headerOf b .edition) ≡ profileOf (h .edition)) refl
 
-  -- a question's dynamic value is there, and so its factor
+  -- what a question's dynamic factor asks: word 10 with kind 4, and a value of at most 5000
   pub dynamic-limits : (q : Question) → (head .kind ≡ 4 → 44 ≤ length b) × (dynamicValue b head q ≤ 5000)
   dynamic-limits q =
       own (λ h. (h .kind ≡ 4 → 44 ≤ length b) × (dynamicValue b h q ≤ 5000))
-      (λ k. let l = edition-words (headerOf b) (header .fourth k) (has-header b (c .c1)) in omega arith, dynamic-most (header .dynamic q))
+      (λ k. let l = edition-words (headerOf b) (header .kind4 k) (has-header b (c .c1)) in omega arith, dynamic-most (header .dynamic q))
 
+  -- it is from 1000 to 1300
   pub dynamic : (q : Question) → (1000 ≤ dynamicFactor (head .kind) (dynamicValue b head q)) × (dynamicFactor (head .kind) (dynamicValue b head q) ≤ 1300)
   dynamic q = own (λ h. (1000 ≤ dynamicFactor (h .kind) (dynamicValue b h q)) × (dynamicFactor (h .kind) (dynamicValue b h q) ≤ 1300)) (dynamic-range _ _ (header .dynamic q))
 

@@ -1,4 +1,4 @@
--- What the traffic values ask of an accepted job: its line effects, what lies across and the dynamic factor.
+-- What the traffic values ask of an accepted job: its line effects, what lies across and the dynamic factors.
 use mathlib.Core.Path.{_≡_, refl, sym, _∙_, ap₂, subst}
 use mathlib.Core.List.{List}
 use Prim.Native.Nat.{ℕ, _+_, _*_, _≤_}
@@ -67,7 +67,7 @@ module _ {b : List ℕ} {head : Header} (ready : Ready b head) where
       subst (λ (h : Header). AcrossRight (carriageway (sectionOf b Transverse) (h .width) (h .spacing)) a) (ready .own) (subst (λ (l : List ℕ). AcrossRight (carriageway l (head .width) (head .spacing)) a) found right) in
       record { lanes = r .lanes; unit = r .unit; each = r .each }
 
-  -- the dynamic factor is the job's
+  -- a question's dynamic factor is the job's
   pub factor-is : (q : Question) {d : ℕ} → d ≡ dynamicFactor (head .kind) (dynamicValue b head q) → d ≡ decode b .dynamic q
   unfolding decode
   factor-is q factor = factor ∙ subst (λ (h : Header). dynamicFactor (head .kind) (dynamicValue b head q) ≡ dynamicFactor (h .kind) (dynamicValue b h q)) (ready .own) refl

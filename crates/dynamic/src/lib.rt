@@ -1,6 +1,6 @@
 // The dynamic factor, in thousandths.
 ghost use mathlib.Core.Path.{_≡_};
-ghost use Prim.Native.Nat.{_≤_};
+ghost use Prim.Native.Nat.{_-_, _*_, _≤_, max};
 ghost use lib.ListN.{length};
 ghost use Rattle.model.specs.Decode.{dynamicValue};
 ghost use Rattle.model.specs.Dynamic.{spanFactor, dynamicFactor};
@@ -19,7 +19,17 @@ fn of_span(span: usize) -> usize
     1000 + (150000 + d - 1) / d
 }
 
-// Of the kind: 1, read off by the sender; 2, below ground; 3, a culvert top slab under so much fill in cm; else of a span in dm.
+// Of a culvert top slab under so much fill in cm.
+fn of_fill(fill: usize) -> usize
+    ensures { λ r. ⌜ r ≡ max 1000 (1300 - 3 * fill) ⌝ }
+{
+    if 100 <= fill {
+        return 1000;
+    }
+    1300 - 3 * fill
+}
+
+// Of the kind: 1, read off by the sender; 2, below ground; 3, of a fill; else of a span.
 fn of_kind(kind: usize, value: usize) -> usize
     requires { ⌜ value ≤ 5000 ⌝ }
     ensures { λ r. ⌜ r ≡ dynamicFactor kind value ⌝ }
@@ -31,10 +41,7 @@ fn of_kind(kind: usize, value: usize) -> usize
         return 1000;
     }
     if kind == 3 {
-        if 100 <= value {
-            return 1000;
-        }
-        return 1300 - 3 * value;
+        return of_fill(value);
     }
     of_span(value)
 }

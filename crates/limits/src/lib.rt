@@ -96,7 +96,7 @@ pub fn pieces_fit(h: i64, n: i64) -> bool
     false
 }
 
-// The last dynamic kind of an edition.
+// The dynamic kinds of an edition: from 1 to this.
 fn dynamic_kinds(edition: Edition) -> usize
     ensures { λ r. ⌜ r ≡ dynamicKinds edition ⌝ }
 {
@@ -133,7 +133,7 @@ fn dynamic_fits(s: &[u8]) -> bool
     span_fits(s, 6)
 }
 
-// The span for least: with kind 4, else 0.
+// Word 10: with kind 4 the span for least, else 0.
 fn least_span_fits(s: &[u8]) -> bool
     requires { ⌜ 44 ≤ length (now s) ⌝ }
     ensures { λ r. ⌜ r ≡ leastSpanFits (wordAt (now (s .entry)) 5) (wordAt (now (s .entry)) 10) ⌝ }

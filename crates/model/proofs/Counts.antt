@@ -57,5 +57,5 @@ pub one-of : (l : List ℕ) (item : Item) (z : ℤ) → oneOf l item z ≡ true 
 one-of [] item z e = absurd (false≢true e)
 one-of (m ∷ rest) item z e =
     by-test (is m z) (λ t. (t || oneOf rest item z) ≡ true → OneOf (m ∷ rest) (up z) × (z ≡ pos (up z)))
-    (λ t _. let c = between-count m m z t in (inl (omega (arith, c .least, c .most)), c .is))
+    (λ t _. (inl (is-number m z t), between-count m m z t .is))
     (λ _ f. let r = one-of rest item z f in (inr (r .0), r .1)) e

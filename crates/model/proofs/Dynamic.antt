@@ -1,4 +1,4 @@
--- A span's dynamic factor is its curve rounded up; it falls as the span grows, and is from 1000 to 1300 thousandths. Kinds 1 to 3 are as document 01 has them.
+-- A span's dynamic factor is its curve rounded up; it never rises as the span grows, and is from 1000 to 1300 thousandths. Kinds 1 to 3 are as document 01 has them.
 use mathlib.Core.Path.{_≡_, refl, _∙_, ap}
 use mathlib.Core.Bool.{Bool, true, false}
 use mathlib.Core.Logic.{_↔_}
@@ -37,8 +37,8 @@ module _ (l : ℕ) where
   unfolding spanFactor
   beyond-120 h = rw (lt-leb l 120 h) (ap (λ n. 1000 + n) (whole (l + 380) (omega arith)))
 
-  -- the least number of thousandths on or above 1 + 150/(l + 380)
-  pub rounds-up : 120 < l → (n : ℕ) → (spanFactor l ≤ n) ↔ (1000 * (l + 380 + 150) ≤ n * (l + 380))
+  -- the least number of thousandths on or above 1 + 15/(L + 38), which is L + 38 + 15 over L + 38; L is l tenths of a metre, so both are taken ten times
+  pub rounds-up : 120 < l → (n : ℕ) → (spanFactor l ≤ n) ↔ (1000 * (l + 10 * 38 + 10 * 15) ≤ n * (l + 10 * 38))
   rounds-up h n =
       let d = l + 380 in
       let p : 0 < d = omega arith in
@@ -53,12 +53,6 @@ module _ (l : ℕ) where
       by-test (leb l 120) (λ _. (1000 ≤ spanFactor l) × (spanFactor l ≤ 1300))
       (λ t. let e = to-120 (leb-true l 120 t) in omega arith)
       (λ f. let h = leb-false l 120 f in let e = beyond-120 h in (omega arith, rounds-up h 1300 .1 (omega arith)))
-
--- so in metres, as the paper writes it, on or above 1 + 15/(L + 38)
-pub in-metres : (L n : ℕ) → 12 < L → (spanFactor (10 * L) ≤ n) ↔ (1000 * (L + 38 + 15) ≤ n * (L + 38))
-in-metres L n h =
-    let law = rounds-up (10 * L) (omega arith) n in
-    (λ s. let c = law .0 s in omega arith, λ s. law .1 (omega arith))
 
 -- a span that is longer by j has no greater factor
 pub falls : (l j : ℕ) → spanFactor (l + j) ≤ spanFactor l
@@ -96,7 +90,7 @@ value-to-kind-3 kind value t =
     let c = between-count 1 3 kind t in
     last-of-three _ _ _ _ (is 1 kind) (is 2 kind) (is 3 kind) (λ f g h. omega (arith, past-three c f g h, c .most))
 
--- and both questions have its one factor
+-- and both questions have the one factor of document 01
 pub factor-to-kind-3 : (b : List ℕ) → between (pos 1) (pos 3) (wordAt b 5) ≡ true → (q : Question) → let kind = countAt b 5 in let value = countAt b 6 in decode b .dynamic q ≡ (if eqb kind 1 then value else (if eqb kind 2 then 1000 else max 1000 (1300 - 3 * value)))
 unfolding decode dynamicFactor
 factor-to-kind-3 b t q =

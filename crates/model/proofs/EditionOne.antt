@@ -26,7 +26,7 @@ module _ (b : List ℕ) (not-2 : is 2 (wordAt b 0) ≡ false) (not-4 : is 4 (wor
   unfolding fault1
   first-frame = rw is-first refl
 
-  -- 2: ten header words
+  -- 2: ten header words; word 6 of kinds 1 to 3 by `value-to-kind-3` (Dynamic)
   pub first-header : format (headerOf b) Head ≡ (1 of free ∷ pieceLength ∷ given 1 pieceCount ∷ range 10 50 ∷ range 300 2079 ∷ range 1 3 ∷ given 5 (λ kind item value. dynamicFits kind value) ∷ range 0 16 ∷ range 1 32 ∷ range 0 512 ∷ [])
   first-header = rw is-first refl
 

@@ -52,7 +52,7 @@ pub record HeaderFits (b : List ℕ) : Type 0 where
   pub wide : Count 300 2079 (wordAt b 4)
   pub dynamic : (q : Question) → DynamicRight (countAt b 5) (dynamicValue b (headerOf b) q)
   -- kind 4 is edition 2's
-  pub fourth : countAt b 5 ≡ 4 → headerOf b .edition ≡ Second
+  pub kind4 : countAt b 5 ≡ 4 → headerOf b .edition ≡ Second
   pub effects : Count 0 16 (wordAt b 7)
   pub rows : Count 0 32 (wordAt b 8)
   pub records : Count 0 512 (wordAt b 9)
@@ -99,7 +99,7 @@ header-fits b e =
       spacing = count 3 10 50 (omega arith) (field 3 (omega arith));
       wide = count 4 300 2079 (omega arith) (field 4 (omega arith));
       dynamic = by-question _ greatest (least kind greatest);
-      fourth = λ e. spans kind e .0;
+      kind4 = λ e. spans kind e .0;
       effects = counts .0;
       rows = counts .1;
       records = counts .2;
@@ -124,17 +124,20 @@ header-fits b e =
     count : (q lo hi : ℕ) → q < 10 → between (pos lo) (pos hi) (wordAt (sectionOf b Head) q) ≡ true → Count lo hi (wordAt b q)
     count q lo hi h t = between-count lo hi (wordAt b q) (rw (word q h) at t)
 
+    KindFits : Edition → Type 0
+    KindFits e = Count 1 (dynamicKinds e) (wordAt b 5)
+
     -- no edition has a kind past 4
-    four : Count 1 (dynamicKinds (headerOf b .edition)) (wordAt b 5) → Count 1 4 (wordAt b 5)
+    four : KindFits (headerOf b .edition) → Count 1 4 (wordAt b 5)
     four = go (headerOf b .edition)
       where
-        go : (e : Edition) → Count 1 (dynamicKinds e) (wordAt b 5) → Count 1 4 (wordAt b 5)
+        go : (e : Edition) → KindFits e → Count 1 4 (wordAt b 5)
         go First c = wider c (omega arith) (omega arith)
         go Second c = c
         go Fourth c = wider c (omega arith) (omega arith)
 
     -- kind 4 is edition 2's, where word 10 is a span
-    spans : Count 1 (dynamicKinds (headerOf b .edition)) (wordAt b 5) → countAt b 5 ≡ 4 → (headerOf b .edition ≡ Second) × Count 1 2000 (wordAt b 10)
+    spans : KindFits (headerOf b .edition) → countAt b 5 ≡ 4 → (headerOf b .edition ≡ Second) × Count 1 2000 (wordAt b 10)
     spans c k = go (headerOf b .edition) refl c
       where
         span-word : headerOf b .edition ≡ Second → Count 1 2000 (wordAt b 10)
@@ -144,13 +147,13 @@ header-fits b e =
             let g : leastSpanFits (pos 4) (wordAt b 10) ≡ true = rw (word 5 (omega arith), head-word b 10 there, c .is, k) at f in
             between-count 1 2000 (wordAt b 10) g
 
-        go : (e : Edition) → headerOf b .edition ≡ e → Count 1 (dynamicKinds e) (wordAt b 5) → (headerOf b .edition ≡ Second) × Count 1 2000 (wordAt b 10)
+        go : (e : Edition) → headerOf b .edition ≡ e → KindFits e → (headerOf b .edition ≡ Second) × Count 1 2000 (wordAt b 10)
         go First s d = absurd (omega (arith, d .most))
         go Second s d = (s, span-word s)
         go Fourth s d = absurd (omega (arith, d .most))
 
     -- the value for least
-    least : Count 1 (dynamicKinds (headerOf b .edition)) (wordAt b 5) → DynamicRight (countAt b 5) (countAt b 6) → DynamicRight (countAt b 5) (dynamicValue b (headerOf b) Least)
+    least : KindFits (headerOf b .edition) → DynamicRight (countAt b 5) (countAt b 6) → DynamicRight (countAt b 5) (dynamicValue b (headerOf b) Least)
     least c d =
         by-test (eqb (countAt b 5) 4) (λ t. DynamicRight (countAt b 5) (if t then countAt b 10 else countAt b 6))
         (λ t. let k = eqb-true (countAt b 5) 4 t in let l = spans c k .1 in span k (l .least) (l .most))

@@ -67,13 +67,13 @@ lineLayout n = n of
     ∷ within 5000  -- right ordinate
     ∷ []
 
--- the last dynamic kind of an edition
+-- the dynamic kinds of an edition: from 1 to this
 abbrev pub dynamicKinds : Edition → ℕ
 dynamicKinds First = 3
 dynamicKinds Second = 4
 dynamicKinds Fourth = 3
 
--- a span L in dm
+-- a span L: 1 to 2000 dm
 abbrev pub spanFits : ℤ → Bool
 spanFits l = between (pos 1) (pos 2000) l
 
@@ -104,7 +104,7 @@ abbrev pub tableCounts : Edition → List Field
 tableCounts First = listedCounts []
 tableCounts Second =
     listedCounts
-    (given 5 (λ kind item value. leastSpanFits kind value)  -- word 10: the span for least
+    (given 5 (λ kind item value. leastSpanFits kind value)  -- word 10: with kind 4 the span for least, else 0
     ∷ range 0 0  -- word 11: 0
     ∷ [])
 tableCounts Fourth =

@@ -81,7 +81,7 @@ module _ (c : tie.After-across-of) where
   over : Spanned job (c .across-of .result)
   over = spanned (st .pre .0) (c .before .section .ensures) (c .across-of .ensures)
 
-  -- both dynamic factors
+  -- each question's factor is from 1000 to 1300
   range : (q : Question) → (1000 ≤ dynamicFactor (st .args .head .kind) (dynamicValue (st .args .job .now) (st .args .head) q)) × (dynamicFactor (st .args .head .kind) (dynamicValue (st .args .job .now) (st .args .head) q) ≤ 1300)
   range = dynamic (st .pre .0)
 
@@ -103,8 +103,10 @@ returns c =
     let most = found .before .both .ensures in
     let lowest = found .both2 .ensures in
     let loads = profile-is (st at .pre .0) in
-    let g = most .2 (job at) (over at) loads (factor-is (st at .pre .0) Greatest (at .before .before .before .factor .ensures)) (hn-are at) (ho-are at) in
-    let l = lowest .2 (job at) (over at) loads (factor-is (st at .pre .0) Least (at .before .before .factor2 .ensures)) (hn-are at) (ho-are at) in
+    let dg = factor-is (st at .pre .0) Greatest (at .before .before .before .factor .ensures) in
+    let dl = factor-is (st at .pre .0) Least (at .before .before .factor2 .ensures) in
+    let g = most .2 (job at) (over at) loads (search (dg, dl)) (hn-are at) (ho-are at) in
+    let l = lowest .2 (job at) (over at) loads (search (dg, dl)) (hn-are at) (ho-are at) in
     record {
       normal = record { placed = by-question _ (g .0) (l .0); near = by-question _ (most .0) (lowest .0) };
       overload = record { placed = by-question _ (g .1) (l .1); near = by-question _ (most .1) (lowest .1) };

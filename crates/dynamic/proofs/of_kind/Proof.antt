@@ -1,5 +1,4 @@
 use mathlib.Core.Path.{refl}
-use native.Mathlib.Omega.{arith}
 use borrow.Author.Tests.{eq-eqb, ne-eqb}
 use borrow.Author.Needs.{needs}
 use Rattle.model.specs.Dynamic.{dynamicFactor}
@@ -16,15 +15,11 @@ returns-2 c = rw (ne-eqb _ _ (c .before .if1 .left), eq-eqb _ _ (c .if2 .taken))
 
 returns-3 : tie.Need-returns-3
 unfolding dynamicFactor
-returns-3 c = let e3 = c .before in rw (ne-eqb _ _ (e3 .before .before .if1 .left), ne-eqb _ _ (e3 .before .if2 .left), eq-eqb _ _ (e3 .if3 .taken)) (omega arith)
+returns-3 c = let e3 = c .before in rw (ne-eqb _ _ (e3 .before .before .if1 .left), ne-eqb _ _ (e3 .before .if2 .left), eq-eqb _ _ (e3 .if3 .taken)) (c .of-fill .ensures)
 
 returns-4 : tie.Need-returns-4
 unfolding dynamicFactor
-returns-4 c = let e3 = c .before in rw (ne-eqb _ _ (e3 .before .before .if1 .left), ne-eqb _ _ (e3 .before .if2 .left), eq-eqb _ _ (e3 .if3 .taken)) (omega arith)
-
-returns-5 : tie.Need-returns-5
-unfolding dynamicFactor
-returns-5 c = let e3 = c .before in rw (ne-eqb _ _ (e3 .before .before .if1 .left), ne-eqb _ _ (e3 .before .if2 .left), ne-eqb _ _ (e3 .if3 .left)) (c .of-span .ensures)
+returns-4 c = let e3 = c .before in rw (ne-eqb _ _ (e3 .before .before .if1 .left), ne-eqb _ _ (e3 .before .if2 .left), ne-eqb _ _ (e3 .if3 .left)) (c .of-span .ensures)
 
 pub of-kind-spec : {M : Type 1} → statement M
-of-kind-spec = tie.close (tie.spec returns returns-2 returns-3 (λ c. search needs) (λ c. search needs) returns-4 (λ c κs. search needs) returns-5)
+of-kind-spec = tie.close (tie.spec returns returns-2 (λ c κs. search needs) returns-3 (λ c κs. search needs) returns-4)
