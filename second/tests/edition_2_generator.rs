@@ -4,21 +4,19 @@
 mod common;
 
 use common::streams::{
-    answer_to, header_word_labels, reach_all, refusal_labels, section_labels, shape_labels,
-    sum_of_cases, Faults, REFUSALS_IN_EVERY_EDITION,
+    answer_to, header_word_labels, refusal_labels, section_labels, shape_labels, Asked,
+    REFUSALS_IN_EVERY_EDITION,
 };
 use second::account::{Account, State};
 use second::edition::Edition;
-use second::generator::{case, Case, Stream};
+use second::generator::{Case, Stream};
 use second::job::Job;
 use second::loads::Question;
 use second::sections::Sections;
 use second::words::{joined, words_of};
-use second::{chosen, store};
 use std::collections::BTreeSet;
 use std::ops::Range;
 
-const CASES: u64 = 20_000;
 const MOST: i64 = 100_000_000_000_000;
 
 /// What is worth reaching about a case.
@@ -275,39 +273,14 @@ fn expected_outcomes() -> Vec<String> {
     expected
 }
 
-#[test]
-fn every_refusal_value_and_outcome_is_reached() {
-    let cases = (0..CASES).map(|seed| case(Stream::Two, seed));
-    reach_all(cases, labels, expected_labels());
-}
-
-#[test]
-fn the_stored_cases_reach_every_refusal_value_and_outcome() {
-    let generated = store::generated_cases(Stream::Two);
-    let cases = generated.chain(chosen::cases(Stream::Two));
-    reach_all(cases, labels, expected_labels());
-}
-
-const FAULTS: Faults = Faults {
+stream_tests!(Asked {
     stream: Stream::Two,
+    labels,
+    expected_labels,
+    seeds: 20_000,
+    with_chosen: true,
     order: &[1, 2, 3, 4, 5, 6, 7, 8, 9],
     admitted_since: &[],
     least_of_3: 180,
-};
-
-#[test]
-fn a_fault_alone_gives_its_refusal() {
-    FAULTS.each_alone_gives_its_refusal();
-}
-
-/// Of two faults the lower refusal is given.
-#[test]
-fn two_faults_give_the_lower_refusal() {
-    FAULTS.two_give_the_first_refusal();
-}
-
-/// A seed's case is fixed, whatever other streams bring.
-#[test]
-fn the_cases_of_edition_2_never_change() {
-    assert_eq!(sum_of_cases(Stream::Two), 15_329_208_469_268_208_468);
-}
+    sum: 15_329_208_469_268_208_468,
+});

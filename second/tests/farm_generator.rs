@@ -4,24 +4,20 @@
 mod common;
 
 use common::streams::{
-    answer_to, header_word_labels, reach_all, refusal_labels, shape_labels, sum_of_cases, Faults,
-    REFUSALS_IN_EVERY_EDITION,
+    answer_to, header_word_labels, refusal_labels, shape_labels, Asked, REFUSALS_IN_EVERY_EDITION,
 };
 use second::account::{Account, Governing};
 use second::combination::Part;
 use second::edition::Edition;
 use second::farm;
-use second::generator::{case, Case, Stream};
+use second::generator::{Case, Stream};
 use second::job::Job;
 use second::line::patch_byte;
 use second::loads::Question;
 use second::sections::Sections;
 use second::words::words_of;
-use second::{chosen, store};
 use std::collections::BTreeSet;
 use std::ops::Range;
-
-const CASES: u64 = 20_000;
 
 /// What is worth reaching about a case.
 fn labels(case: &Case) -> Vec<String> {
@@ -311,39 +307,14 @@ fn expected_outcomes() -> Vec<String> {
     expected
 }
 
-#[test]
-fn every_refusal_row_and_shape_is_reached() {
-    let cases = (0..CASES).map(|seed| case(Stream::Four, seed));
-    reach_all(cases, labels, expected_labels());
-}
-
-#[test]
-fn the_stored_cases_reach_every_refusal_row_and_shape() {
-    let generated = store::generated_cases(Stream::Four);
-    let cases = generated.chain(chosen::cases(Stream::Four));
-    reach_all(cases, labels, expected_labels());
-}
-
-const FAULTS: Faults = Faults {
+stream_tests!(Asked {
     stream: Stream::Four,
+    labels,
+    expected_labels,
+    seeds: 20_000,
+    with_chosen: true,
     order: &[1, 2, 11, 3, 4, 5, 6, 9],
     admitted_since: &[Edition::Two],
     least_of_3: 170,
-};
-
-#[test]
-fn a_fault_alone_gives_its_refusal() {
-    FAULTS.each_alone_gives_its_refusal();
-}
-
-/// Of two faults the one that is tested first is given.
-#[test]
-fn two_faults_give_the_first_refusal() {
-    FAULTS.two_give_the_first_refusal();
-}
-
-/// A seed's case is fixed, whatever other streams bring.
-#[test]
-fn the_cases_of_edition_4_never_change() {
-    assert_eq!(sum_of_cases(Stream::Four), 13_955_522_561_190_928_816);
-}
+    sum: 13_955_522_561_190_928_816,
+});

@@ -3,20 +3,18 @@
 
 mod common;
 
-use common::streams::{answer_to, reach_all, section_labels, shape_labels, sum_of_cases, Faults};
+use common::streams::{answer_to, section_labels, shape_labels, Asked};
 use second::account::Account;
 use second::edition::Edition;
-use second::generator::{case, Case, Stream};
+use second::generator::{Case, Stream};
 use second::job::Job;
 use second::lanes::lane_count;
 use second::line::{pair_ordinates, patch_byte, pieces_between_axles, stations, Stand};
 use second::loads::Side;
 use second::sections::Sections;
 use second::words::words_of;
-use second::{store, Answer};
+use second::Answer;
 use std::collections::BTreeSet;
-
-const CASES: u64 = 8_000;
 
 /// What is worth reaching about a case.
 fn labels(case: &Case) -> Vec<String> {
@@ -417,38 +415,14 @@ fn expected_labels() -> BTreeSet<String> {
     expected
 }
 
-#[test]
-fn the_cases_reach_every_refusal_and_shape() {
-    let cases = (0..CASES).map(|seed| case(Stream::One, seed));
-    reach_all(cases, labels, expected_labels());
-}
-
-#[test]
-fn the_stored_cases_reach_every_refusal_and_shape() {
-    let cases = store::generated_cases(Stream::One);
-    reach_all(cases, labels, expected_labels());
-}
-
-const FAULTS: Faults = Faults {
+stream_tests!(Asked {
     stream: Stream::One,
+    labels,
+    expected_labels,
+    seeds: 8_000,
+    with_chosen: false,
     order: &[1, 2, 3, 4, 5, 6, 7, 8, 9],
     admitted_since: &[Edition::Two],
     least_of_3: 180,
-};
-
-#[test]
-fn a_fault_alone_gives_its_refusal() {
-    FAULTS.each_alone_gives_its_refusal();
-}
-
-/// Of two faults the lower refusal is given.
-#[test]
-fn two_faults_give_the_lower_refusal() {
-    FAULTS.two_give_the_first_refusal();
-}
-
-/// A seed's case is fixed, whatever other streams bring.
-#[test]
-fn the_cases_of_edition_1_never_change() {
-    assert_eq!(sum_of_cases(Stream::One), 3_699_499_953_521_068_672);
-}
+    sum: 3_699_499_953_521_068_672,
+});

@@ -4,20 +4,18 @@
 mod common;
 
 use common::streams::{
-    answer_to, header_word_labels, reach_all, refusal_labels, section_labels, shape_labels,
-    sum_of_cases, Faults, REFUSALS_IN_EVERY_EDITION,
+    answer_to, header_word_labels, refusal_labels, section_labels, shape_labels, Asked,
+    REFUSALS_IN_EVERY_EDITION,
 };
 use second::account::Account;
 use second::edition::Edition;
-use second::generator::{case, Case, Stream};
+use second::generator::{Case, Stream};
 use second::job::Job;
 use second::loads::{Live, Question};
 use second::refusals::refusal;
 use second::words::{bytes_of, changed, words_of, Change};
-use second::{chosen, store, Answer};
+use second::Answer;
 use std::collections::BTreeSet;
-
-const CASES: u64 = 20_000;
 
 /// What is worth reaching about a case.
 fn labels(case: &Case) -> Vec<String> {
@@ -243,39 +241,14 @@ fn expected_outcomes() -> Vec<String> {
     expected
 }
 
-#[test]
-fn every_refusal_order_and_span_is_reached() {
-    let cases = (0..CASES).map(|seed| case(Stream::Spans, seed));
-    reach_all(cases, labels, expected_labels());
-}
-
-#[test]
-fn the_stored_cases_reach_every_refusal_order_and_span() {
-    let generated = store::generated_cases(Stream::Spans);
-    let cases = generated.chain(chosen::cases(Stream::Spans));
-    reach_all(cases, labels, expected_labels());
-}
-
-const FAULTS: Faults = Faults {
+stream_tests!(Asked {
     stream: Stream::Spans,
+    labels,
+    expected_labels,
+    seeds: 20_000,
+    with_chosen: true,
     order: &[1, 2, 3, 4, 5, 6, 7, 8, 9],
     admitted_since: &[],
     least_of_3: 180,
-};
-
-#[test]
-fn a_fault_alone_gives_its_refusal() {
-    FAULTS.each_alone_gives_its_refusal();
-}
-
-/// Of two faults the lower refusal is given.
-#[test]
-fn two_faults_give_the_lower_refusal() {
-    FAULTS.two_give_the_first_refusal();
-}
-
-/// A seed's case is fixed, whatever other streams bring.
-#[test]
-fn the_cases_with_spans_never_change() {
-    assert_eq!(sum_of_cases(Stream::Spans), 1_664_090_881_491_447_919);
-}
+    sum: 1_664_090_881_491_447_919,
+});

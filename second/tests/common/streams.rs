@@ -8,7 +8,7 @@ use second::lanes::lane_count;
 use second::rng::Rng;
 use second::sections::Sections;
 use second::words::{words_of, WORD_BYTES};
-use second::{solve, Answer};
+use second::{chosen, solve, store, Answer};
 use std::collections::BTreeSet;
 
 pub fn answer_to(case: &Case) -> Answer {
@@ -27,9 +27,16 @@ pub fn reach_all<C>(
     assert!(missed.is_empty(), "never reached: {missed:#?}");
 }
 
-/// What the faults of a stream come to.
-pub struct Faults {
+/// What is asked of a stream.
+pub struct Asked {
     pub stream: Stream,
+    /// What is worth reaching about a case.
+    pub labels: fn(&Case) -> Vec<String>,
+    pub expected_labels: fn() -> BTreeSet<String>,
+    /// How many seeds, from 0 on, reach what is expected.
+    pub seeds: u64,
+    /// Whether the stored cases that reach it include the chosen ones.
+    pub with_chosen: bool,
     /// The refusals, in the order in which they are tested.
     pub order: &'static [u64],
     /// Editions that a fault of word 0 may name, whose own tests then apply.
@@ -37,11 +44,30 @@ pub struct Faults {
     /// Of 200 faults of the count, how many at least give 3; the others leave the
     /// count as it was or make the line too long.
     pub least_of_3: usize,
+    /// The sum over the cases of the first 2000 seeds.
+    pub sum: u64,
 }
 
-impl Faults {
+impl Asked {
     #[track_caller]
-    pub fn each_alone_gives_its_refusal(&self) {
+    pub fn cases_reach_all(&self) {
+        self.reached_by((0..self.seeds).map(|seed| case(self.stream, seed)));
+    }
+
+    #[track_caller]
+    pub fn stored_cases_reach_all(&self) {
+        let chosen = self.with_chosen.then(|| chosen::cases(self.stream));
+        let generated = store::generated_cases(self.stream);
+        self.reached_by(generated.chain(chosen.into_iter().flatten()));
+    }
+
+    #[track_caller]
+    fn reached_by(&self, cases: impl Iterator<Item = Case>) {
+        reach_all(cases, self.labels, (self.expected_labels)());
+    }
+
+    #[track_caller]
+    pub fn each_fault_alone_gives_its_refusal(&self) {
         for &fault in self.order {
             let missed: Vec<u64> = (0..200)
                 .filter(|&seed| self.refusal_given(&[fault], seed) != fault)
@@ -54,7 +80,7 @@ impl Faults {
 
     /// But for 3, whose fault may come to nothing.
     #[track_caller]
-    pub fn two_give_the_first_refusal(&self) {
+    pub fn two_faults_give_the_first_refusal(&self) {
         assert_eq!(faults_of(self.stream.edition()), self.order);
         for (at, &first) in self.order.iter().enumerate() {
             if first == 3 {
@@ -78,15 +104,50 @@ impl Faults {
             _ => answer_to(&case).refusal,
         }
     }
+
+    #[track_caller]
+    pub fn cases_never_change(&self) {
+        let bytes_of_case = |seed| {
+            let case = case(self.stream, seed);
+            case.job.into_iter().chain(case.patch)
+        };
+        assert_eq!(fnv_1a((0..2000).flat_map(bytes_of_case)), self.sum);
+    }
 }
 
-/// A sum over many of a stream's cases.
-pub fn sum_of_cases(stream: Stream) -> u64 {
-    let bytes_of_case = |seed| {
-        let case = case(stream, seed);
-        case.job.into_iter().chain(case.patch)
+/// The tests of what is asked of a stream.
+#[macro_export] // To be in reach at a test file's root.
+macro_rules! stream_tests {
+    ($asked:expr) => {
+        const ASKED: $crate::common::streams::Asked = $asked;
+
+        #[test]
+        fn the_cases_reach_all_that_is_expected() {
+            ASKED.cases_reach_all();
+        }
+
+        #[test]
+        fn the_stored_cases_reach_all_that_is_expected() {
+            ASKED.stored_cases_reach_all();
+        }
+
+        #[test]
+        fn a_fault_alone_gives_its_refusal() {
+            ASKED.each_fault_alone_gives_its_refusal();
+        }
+
+        /// Of two faults the one that is tested first is given.
+        #[test]
+        fn two_faults_give_the_first_refusal() {
+            ASKED.two_faults_give_the_first_refusal();
+        }
+
+        /// A seed's case is fixed, whatever other streams bring.
+        #[test]
+        fn the_cases_never_change() {
+            ASKED.cases_never_change();
+        }
     };
-    fnv_1a((0..2000).flat_map(bytes_of_case))
 }
 
 pub fn fnv_1a(bytes: impl Iterator<Item = u8>) -> u64 {
