@@ -1,6 +1,6 @@
 /* hnho.h - the HN-HO-72 load kernel for hosts in C99 or C++.
  *
- * One call takes a job (an influence line, a transverse line, a dynamic factor and a table of load factors, as 32-bit words; a farm
+ * One call takes a job (an influence line, a transverse line, dynamic factors and a table of load factors, as 32-bit words; a farm
  * bridge's table is built in) to its account (the worst traffic values with a placement that gives each, and the row that governs
  * each limit state), or refuses it with a number and a word place. Another rates a train of axles on an influence line alone. Link
  * with libhnho.a. docs/HOST.md has the five-minute path.
@@ -116,7 +116,7 @@ enum hnho_refusal_number {
 /* The edition of a job. */
 enum hnho_edition {
   HNHO_EDITION_HIGHWAY = 1,
-  HNHO_EDITION_NEWTONS = 2,  /* a highway bridge's, with effects in N.U: past 1000000000 kN.U, or not of whole kN.U */
+  HNHO_EDITION_NEWTONS = 2,  /* a highway bridge's, with effects in N.U (past 1000000000 kN.U, or not whole kN.U) or spans by sign */
   HNHO_EDITION_RURAL = 4
 };
 
@@ -132,24 +132,24 @@ enum hnho_dynamic_kind {
   HNHO_DYNAMIC_FACTOR = 1,        /* the factor in thousandths, 1000 to 1300 */
   HNHO_DYNAMIC_BELOW_GROUND = 2,  /* 0: the factor is 1000 */
   HNHO_DYNAMIC_FILL = 3,          /* a culvert top slab under so much fill in cm, 0 to 5000: 1300 less 3 a cm, at least 1000 */
-  HNHO_DYNAMIC_SPANS = 4          /* edition 2: a span for each question in dm, 1 to 2000: 1300 to 120 dm, beyond that
-                                     1000 + 150000 / (span + 380), rounded up */
+  HNHO_DYNAMIC_SPANS = 4          /* edition 2: a span in dm for each question, greatest and least, 1 to 2000; a factor is 1300 for
+                                     spans up to 120 dm, beyond that 1000 and 150000 / (span + 380) rounded up */
 };
 
 /* The words of a job, by place.
  *
- *   0  edition: 1, 2 for effects in N.U, or 4 for a farm bridge
+ *   0  edition: 1, 2 for effects in N.U or spans by sign, or 4 for a farm bridge
  *   1  h, piece length in dm: 1, 2, 5, 10, 25 or 50
  *   2  N, pieces: 1 to 1000, N times h at most 1000
  *   3  g, spacing of the transverse ordinates in cm: 10 to 50
  *   4  W, carriageway width in cm: 300 to 2079
- *   5  dynamic kind, of enum hnho_dynamic_kind: 1 to 3, in edition 2 to 4
+ *   5  dynamic kind, of enum hnho_dynamic_kind: 1 to 3; in edition 2 also 4
  *   6  its value; with kind 4 the span for greatest
  *   7  E, effects: 0 to 16; 11 in edition 4
  *   8  R, rows: 1 to 32; 0 in edition 4
  *   9  C, chain records: 0 to 512; 0 in edition 4
- *  10  edition 4: of enum hnho_barriers. W is then the clear width and within the barriers' band, else refusal 11
  *  10  edition 2: with kind 4 the span for least, else 0
+ *  10  edition 4: of enum hnho_barriers. W is then the clear width and within the barriers' band, else refusal 11
  *  11  edition 2: reserved, 0
  *
  * After the header, from word 10 on, in edition 4 from word 11 on, in edition 2 from word 12 on, one section after the other:
@@ -175,10 +175,11 @@ enum hnho_word_place {
   HNHO_WORD_W = 4,
   HNHO_WORD_DYNAMIC_KIND = 5,
   HNHO_WORD_DYNAMIC_VALUE = 6,
+  HNHO_WORD_GREATEST_SPAN = 6,  /* in edition 2 with kind 4 */
   HNHO_WORD_E = 7,
   HNHO_WORD_R = 8,
   HNHO_WORD_C = 9,
-  HNHO_WORD_LEAST_SPAN = 10,   /* in edition 2 */
+  HNHO_WORD_LEAST_SPAN = 10,   /* in edition 2; 0 but with kind 4 */
   HNHO_WORD_BARRIERS = 10,     /* in edition 4 */
   HNHO_HEADER_WORDS = 10,      /* of edition 1 */
   HNHO_NEWTONS_HEADER_WORDS = 12,  /* of edition 2 */

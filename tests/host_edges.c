@@ -660,7 +660,7 @@ static void span_factors(void) {
 static void span_limits(void) {
   static const int32_t no_spans[] = {0, -1, 2001, 65656, INT32_MIN, INT32_MAX};
   static const int32_t no_kinds[] = {0, 5, -4, 260, INT32_MIN, INT32_MAX};
-  const size_t greatest = HNHO_WORD_DYNAMIC_VALUE, least = HNHO_WORD_LEAST_SPAN;
+  const size_t greatest = HNHO_WORD_GREATEST_SPAN, least = HNHO_WORD_LEAST_SPAN;
   size_t word, i, j;
   for (i = 0; i < sizeof no_spans / sizeof *no_spans; i++) {
     int32_t none = no_spans[i];

@@ -69,6 +69,20 @@ service greatest 2749692386250 row 1 least -2503981063200 row 1
 ultimate greatest 7414923629640 row 2 least -2330865309000 row 3
 '
 run 'the arch job' "$arch_text" '' <examples/arch-job.bin
+# with spans by sign, 24 m for greatest and 27 m for least: words 5, 6 and 10 are 4, 240 and 270
+spans_text='normal greatest 232743985 least -142340777
+overload greatest 361978572 least -194554626
+service greatest 2783339070750 row 1 least -2523025357950 row 1
+ultimate greatest 7472679905130 row 2 least -2330865309000 row 3
+'
+arch_spans() {
+  head -c 20 examples/arch-job.bin
+  printf '\4\0\0\0\360\0\0\0'
+  tail -c +29 examples/arch-job.bin | head -c 12
+  printf '\16\1\0\0'
+  tail -c +45 examples/arch-job.bin
+}
+run 'the arch job with spans by sign' "$spans_text" '' < <(arch_spans)
 run "the arch job's first eleven words" $'refused 1 at 0\n' '' < <(head -c 44 examples/arch-job.bin)
 run "the arch job's header" $'refused 3 at 113\n' '' < <(head -c 48 examples/arch-job.bin)
 run 'empty input' $'refused 1 at 0\n' '' </dev/null
