@@ -95,6 +95,11 @@ fn main() {
             second::arch_job::arch_job().bytes(),
             20_000,
         ),
+        (
+            "arch with spans by sign",
+            second::arch_job::arch_job().with_spans(240, 270).bytes(),
+            20_000,
+        ),
         ("N 250, full tables", full(250), 1_000),
         ("N 500, full tables", full(500), 1_000),
         ("largest (N 1000, full tables)", full(1000), 1_000),
