@@ -76,6 +76,16 @@ pub span-figures : map spanFactor (1 ∷ 119 ∷ 120 ∷ 121 ∷ 122 ∷ 2000 �
 unfolding spanFactor floorDiv ceilDiv
 span-figures = refl
 
+-- so 1300 to 121 dm
+pub to-121 : (l : ℕ) → l ≤ 121 → spanFactor l ≡ 1300
+unfolding spanFactor floorDiv ceilDiv
+to-121 l h = by-test (leb l 120) (λ _. spanFactor l ≡ 1300) (λ t. to-120 l (leb-true l 120 t)) (λ f. let p = leb-false l 120 f in let e : l ≡ 121 = omega arith in rw e refl)
+
+-- and the curve from 120 dm on
+pub from-120 : (l : ℕ) → 120 ≤ l → spanFactor l ≡ 1000 + (150000 + (l + 380) - 1) / (l + 380)
+unfolding spanFactor
+from-120 l h = by-test (leb l 120) (λ _. spanFactor l ≡ 1000 + (150000 + (l + 380) - 1) / (l + 380)) (λ t. let p = leb-true l 120 t in let e : l ≡ 120 = omega arith in rw e refl) (λ f. beyond-120 l (leb-false l 120 f))
+
 -- ---- kinds 1 to 3, in every edition
 -- where one of three tests holds, what is left for none does not matter
 last-of-three : {A : Type 0} (x y z w : A) (s t u : Bool) → (s ≡ false → t ≡ false → ¬ (u ≡ false)) → (if s then x else (if t then y else (if u then z else w))) ≡ (if s then x else (if t then y else z))
