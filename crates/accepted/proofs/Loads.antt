@@ -1,7 +1,7 @@
 -- What the traffic values ask of an accepted job: its line effects, what lies across and the dynamic factors.
 use mathlib.Core.Path.{_≡_, refl, sym, _∙_, ap₂, subst}
 use mathlib.Core.List.{List}
-use Prim.Native.Nat.{ℕ, _+_, _*_, _≤_}
+use Prim.Native.Nat.{ℕ, _+_, _*_}
 use lib.Dec.{lit<}
 use lib.IntN.{ℤ, pos}
 use lib.Signed.{_≤ℤ_}

@@ -21,7 +21,7 @@ use Rattle.exact.proofs.Extremes.{by-question}
 use Rattle.exact.proofs.Tests.{leZ-true}
 use Rattle.words.specs.Words.{wordAt, countAt}
 use Rattle.words.specs.Fields.{free, range, _of_, itemFrom, misfit}
-use Rattle.model.specs.Format.{profileOf, headerOf, is, dynamicKinds, spanFits, dynamicFits, leastSpanFits, tableCounts, format, words, bytes, sectionOf}
+use Rattle.model.specs.Format.{profileOf, headerOf, is, dynamicKinds, spanFits, dynamicFits, leastSpanFits, tableCounts, format, words, sectionOf}
 use Rattle.model.specs.Job.{Profile, highway, rural}
 use Rattle.model.specs.Decode.{dynamicValue}
 use Rattle.model.specs.Dynamic.{dynamicFactor}
@@ -106,9 +106,6 @@ header-fits b e =
       eleven = counts .3;
     }
   where
-    long : bytes Head ≤ 4 * words (headerOf b) Head
-    long = header-long (headerOf b)
-
     word : (q : ℕ) → q < 10 → wordAt (sectionOf b Head) q ≡ wordAt b q
     word q h = head-word b q (early b h)
 
