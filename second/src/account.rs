@@ -1,5 +1,6 @@
-//! 01 "Dynamic factor, rounding, rows" and 02 "Farm bridges": the account, as
-//! plain numbers, so that an account of any origin can be held beside it.
+//! 01 "Dynamic factor, rounding, rows", 02 "Farm bridges" and "Additional overload
+//! lanes": the account, as plain numbers, so that an account of any origin can be
+//! held beside it.
 
 use crate::lanes::MOST_LANES;
 use crate::loads::{Direction, Element, Live, Question, Side};
@@ -43,6 +44,8 @@ pub struct Lane {
     pub entry: u32,
     /// In n-ths of a cm from the left kerb; 0 for an unloaded lane.
     pub centre: i64,
+    /// In twentieths, the lane's own where it is an additional one of overload; else 0.
+    pub factor: i64,
 }
 
 /// The raising or the lowering stand of the pair's left axle.

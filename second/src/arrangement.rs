@@ -1,8 +1,8 @@
-//! 01 "Arrangements, for demand 3", 02 "Farm bridges" and "Span by sign":
-//! arrangements in k-ths, judged and evaluated in exact fractions. Nothing here asks
-//! for the best of anything. With the code that does, it shares only the lane count,
-//! the loads and factors of loads.rs, a job's dynamic factors, what edition.rs says
-//! of an edition and the patch byte that a direction loads.
+//! 01 "Arrangements, for demand 3", 02 "Farm bridges", "Span by sign" and "Additional
+//! overload lanes": arrangements in k-ths, judged and evaluated in exact fractions.
+//! Nothing here asks for the best of anything. With the code that does, it shares only
+//! the lane count, the loads and factors of loads.rs, a job's dynamic factors, what
+//! edition.rs says of an edition and the patch byte that a direction loads.
 
 use crate::account::{entry_of, side_of, Account, Traffic, UNLOADED};
 use crate::fraction::Fraction;
@@ -10,10 +10,13 @@ use crate::job::{Job, Piece};
 use crate::lanes::{lane_count, EDGE_DISTANCE, MOST_LANES};
 use crate::line::loaded_byte;
 use crate::loads::{
-    reduction, Element, Live, Question, Side, AXLE_DISTANCE, OVERLOAD_ELEMENT_TWENTIETHS,
-    UNIFORM_LOAD, X_OVER, X_TIMES,
+    additional_factors, reduction, Element, Live, Question, Side, AXLE_DISTANCE,
+    OVERLOAD_ELEMENT_TWENTIETHS, UNIFORM_LOAD, X_OVER, X_TIMES,
 };
 use std::ops::Range;
+
+/// What an additional lane carries, and in which live kind.
+const ADDITIONAL: (Live, Element) = (Live::Overload, Element::Hn);
 
 /// A set of lanes with an element of its own for each lane in it.
 #[derive(Debug, Clone, PartialEq, Eq)]
@@ -36,6 +39,8 @@ pub struct LoadedLane {
     pub side: Side,
     /// In k-ths of a cm from the left kerb.
     pub centre: i128,
+    /// In twentieths, the lane's own where it is an additional one of overload; else 0.
+    pub factor: i64,
 }
 
 impl Arrangement {
@@ -78,6 +83,13 @@ impl Arrangement {
                 return rule_broken("its loaded k-ths run past the line");
             }
         }
+        self.elements_are_lawful(job, live)?;
+        self.factors_are_lawful(live)
+    }
+
+    /// No HO in normal, one in overload; no element in the overload of an edition
+    /// without HO.
+    fn elements_are_lawful(&self, job: &Job, live: Live) -> Result<(), String> {
         let elements = self.loaded_lanes().map(|(_, loaded)| loaded.element);
         let overload_elements = elements.filter(|&element| element == Element::Ho).count();
         match (live, overload_elements) {
@@ -93,25 +105,53 @@ impl Arrangement {
         }
     }
 
-    /// 3X/800000, or the edition's share of it, in N·U, with the dynamic factor of a
-    /// question, before it is rounded for it.
-    pub fn effect(&self, job: &Job, question: Question) -> Fraction {
-        let mut hn_set = 0_u32;
-        let mut hn_sum = Fraction::ZERO;
-        let mut ho_sum = Fraction::ZERO;
+    /// The additional lanes have the factors of their number, each as often as those
+    /// have it; any other lane has none.
+    fn factors_are_lawful(&self, live: Live) -> Result<(), String> {
+        let is_additional = |loaded: &LoadedLane| (live, loaded.element) == ADDITIONAL;
         for (lane, loaded) in self.loaded_lanes() {
-            let effect = loaded.longitudinal_effect(job, self.k)
-                * transverse_ordinate(job, loaded.centre, self.k);
-            match loaded.element {
-                Element::Hn => {
-                    hn_set |= 1 << lane;
-                    hn_sum = hn_sum + effect;
-                }
-                Element::Ho => ho_sum = ho_sum + effect,
+            if !is_additional(loaded) && loaded.factor != 0 {
+                return Err(format!(
+                    "lane {}: has a factor but is not additional",
+                    lane + 1
+                ));
             }
         }
-        let in_twentieths = hn_sum * Fraction::whole(reduction(hn_set).into())
-            + ho_sum * Fraction::whole(OVERLOAD_ELEMENT_TWENTIETHS.into());
+        let additional = self
+            .loaded_lanes()
+            .filter(|(_, loaded)| is_additional(loaded));
+        let found: Vec<i64> = additional.map(|(_, loaded)| loaded.factor).collect();
+        let due = additional_factors(found.len());
+        let times = |factors: &[i64], factor| factors.iter().filter(|&&one| one == factor).count();
+        let mut all = found.iter().chain(&due);
+        match all.find(|&&factor| times(&found, factor) != times(&due, factor)) {
+            None => Ok(()),
+            Some(factor) => Err(format!(
+                "{} additional lanes have factor {factor} {} times, {} is due",
+                found.len(),
+                times(&found, *factor),
+                times(&due, *factor)
+            )),
+        }
+    }
+
+    /// 3X/800000, or the edition's share of it, in N·U, with the dynamic factor of a
+    /// question, before it is rounded for it.
+    pub fn effect(&self, job: &Job, live: Live, question: Question) -> Fraction {
+        let loaded_set = self
+            .loaded_lanes()
+            .fold(0, |set, (lane, _)| set | 1 << lane);
+        let mut in_twentieths = Fraction::ZERO;
+        for (_, loaded) in self.loaded_lanes() {
+            let twentieths = match (live, loaded.element) {
+                (Live::Normal, _) => reduction(loaded_set),
+                (Live::Overload, Element::Ho) => OVERLOAD_ELEMENT_TWENTIETHS,
+                ADDITIONAL => loaded.factor,
+            };
+            let effect = loaded.longitudinal_effect(job, self.k)
+                * transverse_ordinate(job, loaded.centre, self.k);
+            in_twentieths = in_twentieths + effect * Fraction::whole(twentieths.into());
+        }
         let x = in_twentieths * Fraction::whole(job.dynamic_factor(question).into());
         let (share, whole) = job.edition.share_of_x();
         x * Fraction::new(X_TIMES, X_OVER) * Fraction::new(share, whole)
@@ -198,8 +238,8 @@ fn centre_limits_in_cm(job: &Job, lane: usize) -> (Fraction, Fraction) {
 }
 
 /// "The reported placement of a traffic value is the arrangement with its lane
-/// set, kinds and centres"; k is the lane count, since centres are reported in
-/// n-ths of a cm. `patch` holds the patch byte of each piece.
+/// set, kinds and centres", and the factors shown; k is the lane count, since centres
+/// are reported in n-ths of a cm. `patch` holds the patch byte of each piece.
 pub fn reported_placement(
     job: &Job,
     patch: &[u8],
@@ -221,6 +261,9 @@ pub fn reported_placement(
             if reported.centre != 0 {
                 return rule_broken("it is unloaded but has a centre");
             }
+            if reported.factor != 0 {
+                return rule_broken("it is unloaded but has a factor");
+            }
             continue;
         }
         let Some((element, direction)) = entry_of(reported.entry) else {
@@ -236,6 +279,7 @@ pub fn reported_placement(
             left_axle: i128::from(stand.station) * k,
             side,
             centre: reported.centre.into(),
+            factor: reported.factor,
         });
     }
     Ok(arrangement)

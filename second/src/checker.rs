@@ -104,6 +104,7 @@ fn check_stand(
             left_axle: stand.station.into(),
             side,
             centre: 0,
+            factor: 0,
         };
         let due = longitudinal_effect(job, element, direction);
         let found = standing.longitudinal_effect(job, 1);
@@ -133,7 +134,7 @@ fn check_traffic(
     let in_placement = |fault: String| format!("{name}'s placement: {fault}");
     let arrangement = reported_placement(job, patch, account, traffic).map_err(in_placement)?;
     arrangement.lawful(job, live).map_err(in_placement)?;
-    let given = arrangement.effect(job, question).round(question);
+    let given = arrangement.effect(job, live, question).round(question);
     same(
         &format!("{name}'s placement's effect"),
         given,

@@ -1,6 +1,6 @@
 //! 01 "Longitudinal effect", "Lanes" and "Dynamic factor, rounding, rows", 02
-//! "Span by sign": the loads and factors that don't depend on the lines, and the
-//! two questions.
+//! "Span by sign" and "Additional overload lanes": the loads and factors that don't
+//! depend on the lines, and the two questions.
 
 /// The element a loaded lane carries.
 #[derive(Debug, Clone, Copy, PartialEq, Eq)]
@@ -91,7 +91,12 @@ impl Live {
 /// r in twentieths, chosen by the ones of a set of lanes. The empty set has no
 /// r of its own; its sum is 0 whatever stands here.
 pub fn reduction(set: u32) -> i64 {
-    match set.count_ones() {
+    tabulated_factor(set.count_ones())
+}
+
+/// The reduction factors of 3.2.4, in twentieths.
+fn tabulated_factor(number: u32) -> i64 {
+    match number {
         0 | 1 => 20,
         2 => 18,
         3 => 16,
@@ -102,6 +107,17 @@ pub fn reduction(set: u32) -> i64 {
 
 /// The twentieths at which the HO element counts.
 pub const OVERLOAD_ELEMENT_TWENTIETHS: i64 = 20;
+
+/// The factor in twentieths of the m-th additional lane beside the HO element, m
+/// from 1 on: that of 3.2.4 for m lanes.
+pub fn additional_factor(m: u32) -> i64 {
+    tabulated_factor(m)
+}
+
+/// The factors of so many additional lanes, the first's first.
+pub fn additional_factors(count: usize) -> Vec<i64> {
+    (1..).take(count).map(additional_factor).collect()
+}
 
 /// The dynamic factor in thousandths. The value of kind 4 is a question's span.
 pub fn dynamic_factor(kind: i64, value: i64) -> i64 {

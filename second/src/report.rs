@@ -1,7 +1,7 @@
 //! 01 "The host and the program": what the program prints, and a page with the
 //! whole account.
 
-use crate::account::{Account, Answer, Governing, Stand, State, Traffic, UNLOADED};
+use crate::account::{Account, Answer, Governing, Lane, Stand, State, Traffic, UNLOADED};
 
 /// Four lines, or `refused NUMBER at PLACE`; each line ends in a newline.
 pub fn report(answer: &Answer) -> String {
@@ -56,8 +56,7 @@ pub fn page(lanes: usize, account: &Account) -> String {
     .concat()
 }
 
-/// A traffic value, then its placement with a line for each loaded lane. 01
-/// gives no lane a factor of its own, so each shows 0.
+/// A traffic value, then its placement with a line for each loaded lane.
 fn placement_lines(name: &str, lanes: usize, traffic: &Traffic) -> String {
     let mut lines = format!("{name} {} N.U\n", traffic.value);
     lines += &format!("  lanes {lanes}, set {}\n", traffic.set);
@@ -70,8 +69,10 @@ fn placement_lines(name: &str, lanes: usize, traffic: &Traffic) -> String {
             "HO lowering",
         ];
         if lane.entry != UNLOADED {
-            let (entry, centre) = (entry[lane.entry as usize], lane.centre);
-            lines += &format!("  lane {number}: {entry}, centre {centre}/{lanes} cm, factor 0\n");
+            let entry = entry[lane.entry as usize];
+            let Lane { centre, factor, .. } = lane;
+            lines +=
+                &format!("  lane {number}: {entry}, centre {centre}/{lanes} cm, factor {factor}\n");
         }
     }
     lines

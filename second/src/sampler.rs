@@ -1,10 +1,11 @@
 //! Tries to beat a report with arrangements, rows, choices of k and omissions
-//! drawn at random (01 "Arrangements, for demand 3", 02 "Farm bridges"). A right
-//! report is never beaten.
+//! drawn at random (01 "Arrangements, for demand 3", 02 "Farm bridges" and "Additional
+//! overload lanes"). A right report is never beaten.
 //!
 //! The draws lean towards what goes far: loaded k-ths of one sign, axles at and
-//! near good stands, centres at and near limits and transverse ordinates. All
-//! is found and evaluated by arrangement.rs, not by the code that `solve` runs.
+//! near good stands, centres at and near limits and transverse ordinates, larger
+//! factors where additional lanes go further. All is found and evaluated by
+//! arrangement.rs, not by the code that `solve` runs.
 
 use crate::account::Account;
 use crate::arrangement::{
@@ -14,7 +15,7 @@ use crate::combination::{Combination, Variant};
 use crate::fraction::Fraction;
 use crate::job::{Job, MAY_BE_LEFT_OUT, SERVICE, ULTIMATE};
 use crate::lanes::{lane_count, EDGE_DISTANCE};
-use crate::loads::{Direction, Element, Live, Question, Side, AXLE_DISTANCE};
+use crate::loads::{additional_factors, Direction, Element, Live, Question, Side, AXLE_DISTANCE};
 use crate::rng::Rng;
 use std::ops::Range;
 
@@ -103,6 +104,7 @@ impl<'a> Sampler<'a> {
                     left_axle: stand.0,
                     side: stand.1,
                     centre: 0,
+                    factor: 0,
                 };
                 standing.longitudinal_effect(job, 1)
             })
@@ -134,7 +136,7 @@ impl<'a> Sampler<'a> {
         let live = rng.pick(&Live::BOTH);
         let question = rng.pick(&Question::BOTH);
         let arrangement = self.draw(live, question, rng);
-        let effect = arrangement.effect(self.job, question).round(question);
+        let effect = arrangement.effect(self.job, live, question).round(question);
         let reported = account.traffic(live, question).value;
         if question.beats(effect, reported.into()) {
             assert_eq!(arrangement.lawful(self.job, live), Ok(()));
@@ -258,6 +260,17 @@ impl<'a> Sampler<'a> {
                 arrangement.lanes[lane] = Some(loaded);
             }
         }
+        if live == Live::Overload {
+            // In any order, where the lanes are: by how far they go, for some draws.
+            let mut factors = additional_factors(hn_lanes.len());
+            if disturbed {
+                rng.shuffle(&mut factors);
+            }
+            for (&lane, factor) in hn_lanes.iter().zip(factors) {
+                let loaded = arrangement.lanes[lane].as_mut().expect("a loaded lane");
+                loaded.factor = factor;
+            }
+        }
         arrangement
     }
 
@@ -325,6 +338,7 @@ impl<'a> Sampler<'a> {
             left_axle: stand.0 * k,
             side: stand.1,
             centre,
+            factor: 0,
         }
     }
 
@@ -368,6 +382,7 @@ impl<'a> Sampler<'a> {
             left_axle,
             side,
             centre,
+            factor: 0,
         }
     }
 

@@ -1,13 +1,14 @@
-//! 01 "Lanes" and "Dynamic factor, rounding, rows", 02 "Farm bridges" and "Span by
-//! sign": the four traffic values, by trying every centre, direction, lane set and
-//! HO lane.
+//! 01 "Lanes" and "Dynamic factor, rounding, rows", 02 "Farm bridges", "Span by sign"
+//! and "Additional overload lanes": the four traffic values, by trying every centre,
+//! direction, lane set, HO lane and assignment of the additional lanes' factors.
 
 use crate::account::{entry_number, Lane, Traffic};
 use crate::job::Job;
-use crate::lanes::{breakpoint_centres, lane_count, transverse_ordinate};
+use crate::lanes::{breakpoint_centres, lane_count, transverse_ordinate, MOST_LANES};
 use crate::line::longitudinal_effect;
 use crate::loads::{
-    reduction, Direction, Element, Live, Question, OVERLOAD_ELEMENT_TWENTIETHS, X_OVER, X_TIMES,
+    additional_factors, reduction, Direction, Element, Live, Question, OVERLOAD_ELEMENT_TWENTIETHS,
+    X_OVER, X_TIMES,
 };
 
 /// An element standing in a lane, at its furthest for a question.
@@ -79,11 +80,14 @@ pub fn furthest_in_lane(
     furthest
 }
 
-/// A set of loaded lanes with its HO lane, if any, and the sum in 75 N·U times
-/// transverse thousandths, times n times g, times twentieths.
+/// A set of loaded lanes with its HO lane, if any, the factors of the lanes beside it
+/// and the sum in 75 N·U times transverse thousandths, times n times g, times
+/// twentieths.
 struct Loading {
     set: u32,
     overload_lane: Option<usize>,
+    /// In twentieths, of additional lanes; 0 for any other.
+    factors: [i64; MOST_LANES],
     sum: i128,
 }
 
@@ -126,6 +130,7 @@ pub fn traffic_value(
         traffic.lanes[lane] = Lane {
             entry: entry_number(standing.element, standing.direction),
             centre: standing.centre,
+            factor: loading.factors[lane],
         };
     }
     traffic
@@ -138,25 +143,66 @@ fn best_normal(hn: &[LaneElement], question: Question) -> Loading {
     let loadings = all_sets.map(|set| Loading {
         set,
         overload_lane: None,
+        factors: [0; MOST_LANES],
         sum: reduced_sum(hn, set),
     });
     furthest_loading(loadings, question)
 }
 
-/// Overload: one lane carries HO at 20; the other loaded lanes are HN, all at
-/// the r of their own number. Of equally good loadings the lowest HO lane's are
-/// taken, and of those the lowest set's.
+/// Overload: one lane carries HO at 20; the other loaded lanes are HN, each at a
+/// factor of its own, those of their number assigned in any way. Of equally good
+/// loadings the lowest HO lane's are taken, of those the lowest set's, and of those
+/// the one with the larger factor in the lower lane.
 fn best_overload(hn: &[LaneElement], ho: &[LaneElement], question: Question) -> Loading {
-    let twentieths = i128::from(OVERLOAD_ELEMENT_TWENTIETHS);
+    let of_number: Vec<Vec<Vec<i64>>> = (0..hn.len())
+        .map(|count| assignments(&additional_factors(count)))
+        .collect();
     let loadings = (0..hn.len()).flat_map(|lane| {
-        let others = (0..1_u32 << hn.len()).filter(move |set| set & (1 << lane) == 0);
-        others.map(move |set| Loading {
-            set: set | 1 << lane,
-            overload_lane: Some(lane),
-            sum: twentieths * ho[lane].effect + reduced_sum(hn, set),
-        })
+        let sets = (0..1_u32 << hn.len()).filter(move |set| set & (1 << lane) == 0);
+        let assigned = sets.flat_map(|additional| {
+            let assignments = &of_number[additional.count_ones() as usize];
+            assignments.iter().map(move |factors| (additional, factors))
+        });
+        assigned.map(move |(additional, factors)| overload(hn, ho, lane, additional, factors))
     });
     furthest_loading(loadings, question)
+}
+
+/// Every order of these factors, leftmost lane first; where the next may be any, those
+/// earlier in the list come first.
+fn assignments(factors: &[i64]) -> Vec<Vec<i64>> {
+    if factors.is_empty() {
+        return vec![vec![]];
+    }
+    let with_first = |at: usize| {
+        let mut rest = factors.to_vec();
+        let first = rest.remove(at);
+        let orders = assignments(&rest).into_iter();
+        orders.map(move |order| [&[first], &order[..]].concat())
+    };
+    (0..factors.len()).flat_map(with_first).collect()
+}
+
+/// HO in a lane and HN in the additional ones, with their factors, leftmost first.
+fn overload(
+    hn: &[LaneElement],
+    ho: &[LaneElement],
+    overload_lane: usize,
+    additional: u32,
+    assigned: &[i64],
+) -> Loading {
+    let mut factors = [0; MOST_LANES];
+    let mut sum = i128::from(OVERLOAD_ELEMENT_TWENTIETHS) * ho[overload_lane].effect;
+    for (lane, &factor) in lanes_of(additional).zip(assigned) {
+        factors[lane] = factor;
+        sum += i128::from(factor) * hn[lane].effect;
+    }
+    Loading {
+        set: additional | 1 << overload_lane,
+        overload_lane: Some(overload_lane),
+        factors,
+        sum,
+    }
 }
 
 /// The sum over HN lanes at the r of their number.

@@ -18,7 +18,13 @@ fn lane(element: Element, left_axle: i128, side: Side, centre: i128) -> LoadedLa
         left_axle,
         side,
         centre,
+        factor: 0,
     }
+}
+
+/// The element in an additional lane.
+fn additional(factor: i64, element: LoadedLane) -> LoadedLane {
+    LoadedLane { factor, ..element }
 }
 
 fn arrangement(k: i128, lanes: &[(usize, LoadedLane)]) -> Arrangement {
@@ -118,15 +124,21 @@ fn an_arrangements_effect() {
     let whole = arrangement(2, &[(0, element.clone())]);
     assert_eq!(whole.lawful(&job, Live::Normal), Ok(()));
     assert_eq!(
-        whole.effect(&job, Question::Greatest),
+        whole.effect(&job, Live::Normal, Question::Greatest),
         Fraction::whole(9660)
     );
     element.loaded = vec![1..2];
     let half = arrangement(2, &[(0, element)]);
-    assert_eq!(half.effect(&job, Question::Greatest), Fraction::whole(8190));
+    assert_eq!(
+        half.effect(&job, Live::Normal, Question::Greatest),
+        Fraction::whole(8190)
+    );
     let empty = Arrangement::empty(4);
     assert_eq!(empty.lawful(&job, Live::Normal), Ok(()));
-    assert_eq!(empty.effect(&job, Question::Greatest), Fraction::ZERO);
+    assert_eq!(
+        empty.effect(&job, Live::Normal, Question::Greatest),
+        Fraction::ZERO
+    );
 }
 
 /// W 600, ordinates 1000 and 500 at the only centres. Two HN axles of 8:
@@ -143,13 +155,16 @@ fn r_is_chosen_by_the_hn_lanes() {
     let normal = arrangement(1, &[(0, hn.clone()), (1, standing(Element::Hn, 450))]);
     assert_eq!(normal.lawful(&job, Live::Normal), Ok(()));
     assert_eq!(
-        normal.effect(&job, Question::Greatest),
+        normal.effect(&job, Live::Normal, Question::Greatest),
         Fraction::whole(1_296_000)
     );
-    let overload = arrangement(1, &[(0, hn), (1, standing(Element::Ho, 450))]);
+    let overload = arrangement(
+        1,
+        &[(0, additional(20, hn)), (1, standing(Element::Ho, 450))],
+    );
     assert_eq!(overload.lawful(&job, Live::Overload), Ok(()));
     assert_eq!(
-        overload.effect(&job, Question::Greatest),
+        overload.effect(&job, Live::Overload, Question::Greatest),
         Fraction::whole(1_920_000)
     );
 }
@@ -171,7 +186,8 @@ fn unlawful_arrangements_are_told() {
         assert_eq!(lawful(Normal, 3, &[(1, hn(centre + 1080))]), Ok(()));
     }
     assert_eq!(lawful(Normal, 3, &[(0, loading(&[0..5, 5..12]))]), Ok(()));
-    assert_eq!(lawful(Overload, 3, &[(0, ho(450)), (1, hn(1530))]), Ok(()));
+    let first = additional(20, hn(1530));
+    assert_eq!(lawful(Overload, 3, &[(0, ho(450)), (1, first)]), Ok(()));
     let unlawful = [
         lawful(Normal, 0, &[]),
         lawful(Normal, -1, &[]),
@@ -227,11 +243,11 @@ fn a_farm_arrangement_counts_17_twentieths() {
     let one = arrangement(1, &[(0, lane(Element::Hn, 0, Side::Right, 150))]);
     assert_eq!(one.lawful(&job, Live::Normal), Ok(()));
     assert_eq!(
-        one.effect(&job, Question::Greatest),
+        one.effect(&job, Live::Normal, Question::Greatest),
         Fraction::whole(816_000)
     );
     assert_eq!(
-        Arrangement::empty(3).effect(&job, Question::Greatest),
+        Arrangement::empty(3).effect(&job, Live::Normal, Question::Greatest),
         Fraction::ZERO
     );
 }
@@ -263,7 +279,7 @@ fn an_arrangement_counts_the_factor_of_the_question() {
         let one = arrangement(1, &[(0, lane(Element::Hn, left_axle, side, 150))]);
         for (question, factor) in [(Question::Greatest, 1299), (Question::Least, 1064)] {
             let due = Fraction::whole(sign * 960 * factor);
-            assert_eq!(one.effect(&job, question), due);
+            assert_eq!(one.effect(&job, Live::Normal, question), due);
         }
     }
 }

@@ -218,6 +218,7 @@ fn wrong_placements_are_refused() {
                 traffic.lanes[2] = Lane {
                     entry: 1,
                     centre: 1500,
+                    factor: 0,
                 };
             }),
             ("unloaded but has a centre", |call| {
@@ -439,6 +440,7 @@ fn equally_good_placements_are_free() {
             traffic.lanes[1] = Lane {
                 entry: 2,
                 centre: 1100,
+                factor: 0,
             };
         })],
     );
@@ -449,10 +451,11 @@ fn equally_good_placements_are_free() {
             ("another centre", |call| {
                 call.answer.account.normal_greatest.lanes[0].centre = 1001
             }),
-            ("another HO lane", |call| {
+            ("another HO lane and other factors", |call| {
                 let lanes = &mut call.answer.account.overload_greatest.lanes;
-                for (lane, entry) in lanes.iter_mut().zip([1, 1, 1, 3, 1]) {
-                    lane.entry = entry;
+                let entries = [(1, 14), (1, 20), (1, 16), (3, 0), (1, 18)];
+                for (lane, (entry, factor)) in lanes.iter_mut().zip(entries) {
+                    (lane.entry, lane.factor) = (entry, factor);
                 }
             }),
         ],

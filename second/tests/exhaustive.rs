@@ -40,6 +40,7 @@ fn every_element(
                         left_axle,
                         side,
                         centre,
+                        factor: 0,
                     });
                 }
             }
@@ -51,6 +52,13 @@ fn every_element(
 fn as_ho(element: &LoadedLane) -> LoadedLane {
     LoadedLane {
         element: Element::Ho,
+        ..element.clone()
+    }
+}
+
+fn as_additional(element: &LoadedLane, factor: i64) -> LoadedLane {
+    LoadedLane {
+        factor,
         ..element.clone()
     }
 }
@@ -73,7 +81,7 @@ impl Furthest {
 
     fn take(&mut self, job: &Job, arrangement: &Arrangement) {
         assert_eq!(arrangement.lawful(job, self.live), Ok(()));
-        let effect = |question| arrangement.effect(job, question).round(question);
+        let effect = |question| arrangement.effect(job, self.live, question).round(question);
         self.greatest = self.greatest.max(effect(Question::Greatest));
         self.least = self.least.min(effect(Question::Least));
     }
@@ -186,8 +194,14 @@ fn two_lanes() {
             overload.take(&job, &pair(Some(as_ho(one)), None));
             for other in &right {
                 normal.take(&job, &pair(Some(one.clone()), Some(other.clone())));
-                overload.take(&job, &pair(Some(as_ho(one)), Some(other.clone())));
-                overload.take(&job, &pair(Some(one.clone()), Some(as_ho(other))));
+                overload.take(
+                    &job,
+                    &pair(Some(as_ho(one)), Some(as_additional(other, 20))),
+                );
+                overload.take(
+                    &job,
+                    &pair(Some(as_additional(one, 20)), Some(as_ho(other))),
+                );
             }
         }
         for other in &right {

@@ -129,6 +129,7 @@ fn a_loaded_overload_is_refused() {
                 overload.lanes[0] = Lane {
                     entry: 2,
                     centre: 150,
+                    factor: 0,
                 };
             }),
             ("a lane is loaded", |call| {
@@ -137,6 +138,7 @@ fn a_loaded_overload_is_refused() {
                 overload.lanes[0] = Lane {
                     entry: 4,
                     centre: 150,
+                    factor: 0,
                 };
             }),
             ("does not agree with the lane set", |call| {

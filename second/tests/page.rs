@@ -9,28 +9,38 @@ use second::solve::account_of;
 
 #[test]
 fn every_part_of_an_account_is_told() {
-    let traffic = |value, set, lanes: [(u32, i64); 5]| Traffic {
+    let traffic = |value, set, lanes: [(u32, i64, i64); 5]| Traffic {
         value,
         set,
-        lanes: lanes.map(|(entry, centre)| Lane { entry, centre }),
+        lanes: lanes.map(|(entry, centre, factor)| Lane {
+            entry,
+            centre,
+            factor,
+        }),
     };
-    let unloaded = (0, 0);
+    let unloaded = (0, 0, 0);
     let account = Account {
         normal_greatest: traffic(
             31,
             0b10010,
-            [unloaded, (1, 2001), unloaded, unloaded, (2, 9000)],
+            [unloaded, (1, 2001, 0), unloaded, unloaded, (2, 9000, 0)],
         ),
         normal_least: traffic(-32, 0, [unloaded; 5]),
         overload_greatest: traffic(
             33,
-            0b01001,
-            [(3, 750), unloaded, unloaded, (1, 7000), unloaded],
+            0b11001,
+            [
+                (3, 750, 0),
+                unloaded,
+                unloaded,
+                (1, 7000, 18),
+                (2, 8001, 20),
+            ],
         ),
         overload_least: traffic(
             -34,
             0b00100,
-            [unloaded, unloaded, (4, 5005), unloaded, unloaded],
+            [unloaded, unloaded, (4, 5005, 0), unloaded, unloaded],
         ),
         raising: Stand {
             station: 17,
@@ -67,9 +77,10 @@ normal greatest 31 N.U
 normal least -32 N.U
   lanes 5, set 0
 overload greatest 33 N.U
-  lanes 5, set 9
+  lanes 5, set 25
   lane 1: HO raising, centre 750/5 cm, factor 0
-  lane 4: HN raising, centre 7000/5 cm, factor 0
+  lane 4: HN raising, centre 7000/5 cm, factor 18
+  lane 5: HN lowering, centre 8001/5 cm, factor 20
 overload least -34 N.U
   lanes 5, set 4
   lane 3: HO lowering, centre 5005/5 cm, factor 0
@@ -85,7 +96,10 @@ ultimate least -42 row 1, left out 0, traffic left out
 /// The pair is as good at station 1, from either side, as at 2. Lane 1 is as
 /// high at 200 cm as at 250, where its centres end. Lane 2 or lane 4 beside it
 /// gives the same, 0.9 of 1120, which is more than lane 1 alone or 0.8 of all
-/// three. For least every lane, centre and direction gives 0.
+/// three. Beside HO in lane 1 both take a factor, lane 2 or lane 4 the larger: HN is
+/// 7 * 50 * 40 + 1600 * 16 = 39600, HO 65200, and 20 * 65200 * 1000 + 38 * 39600 * 120
+/// = 1484576000, times 3 / 800, is 5567160. For least every lane, centre and
+/// direction gives 0.
 #[test]
 fn of_equally_good_choices_the_lowest_is_shown() {
     let mut transverse = vec![0; 41];
@@ -101,11 +115,11 @@ normal greatest 2993760 N.U
   lane 2: HN raising, centre 2750/5 cm, factor 0
 normal least 0 N.U
   lanes 5, set 0
-overload greatest 5531520 N.U
+overload greatest 5567160 N.U
   lanes 5, set 11
   lane 1: HO raising, centre 1000/5 cm, factor 0
-  lane 2: HN raising, centre 2750/5 cm, factor 0
-  lane 4: HN raising, centre 6750/5 cm, factor 0
+  lane 2: HN raising, centre 2750/5 cm, factor 20
+  lane 4: HN raising, centre 6750/5 cm, factor 18
 overload least 0 N.U
   lanes 5, set 1
   lane 1: HO raising, centre 750/5 cm, factor 0

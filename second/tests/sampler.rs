@@ -136,7 +136,9 @@ fn a_beating_names_its_arrangement() {
     };
     assert_eq!(arrangement.lawful(&job, Live::Normal), Ok(()));
     let question = Question::Greatest;
-    let given = arrangement.effect(&job, question).round(question);
+    let given = arrangement
+        .effect(&job, Live::Normal, question)
+        .round(question);
     assert_eq!(given, effect);
     assert!((10_237_501..=10_319_400).contains(&effect));
 }

@@ -1,8 +1,9 @@
-//! What 01, 02 "Farm bridges", "Effects past a word" and "Span by sign" make due for
-//! a job, by trying everything that they name: every station and side, every centre in n-ths of a cm, every lane
-//! set and HO lane, every row with every k and every omission. Of the crate only the shape of an answer is
-//! used, so a slip in the solver, or in what the solver and the checker share,
-//! shows beside it.
+//! What 01, 02 "Farm bridges", "Effects past a word", "Span by sign" and "Additional
+//! overload lanes" make due for a job, by trying everything that they name: every
+//! station and side, every centre in n-ths of a cm, every lane set, every HO lane with
+//! every lane's factor, every row with every k and every omission. Of the crate only
+//! the shape of an answer is used, so a slip in the solver, or in what the solver and
+//! the checker share, shows beside it.
 
 use super::farm_tables::{FIRST_ULTIMATE_ROW, K, LIVE, ROWS, ROW_OF_K};
 use second::account::{Answer, Governing, State};
@@ -277,8 +278,64 @@ impl Furthest {
 /// r in twentieths for 1 to 5 lanes.
 const R: [i64; 6] = [0, 20, 18, 16, 14, 12];
 
-/// Normal and overload, over every lane set and every HO lane in it; a farm job
-/// has 0.85 HN and no HO.
+/// What a lane carries in overload: nothing, HO, or HN as the m-th additional lane,
+/// for m from 1 on.
+#[derive(Clone, Copy, PartialEq)]
+enum Role {
+    Unloaded,
+    Ho,
+    Additional(usize),
+}
+
+/// The twentieths of the first additional lane to the fourth.
+const ADDITIONAL: [i64; 4] = [20, 18, 16, 14];
+
+/// Every way for so many lanes to have one HO and each of the first additional lanes
+/// once, found among all ways for each of them to have any role.
+fn overload_roles(lanes: usize) -> Vec<Vec<Role>> {
+    let role = |number: usize| match number {
+        0 => Role::Unloaded,
+        1 => Role::Ho,
+        _ => Role::Additional(number - 1),
+    };
+    let kinds = lanes + 1;
+    let ways = (0..kinds.pow(lanes as u32)).map(|way| {
+        let of_lane = |lane: usize| role(way / kinds.pow(lane as u32) % kinds);
+        (0..lanes).map(of_lane).collect::<Vec<Role>>()
+    });
+    ways.filter(|roles| {
+        let times = |role| roles.iter().filter(|&&one| one == role).count();
+        let additional = lanes - times(Role::Unloaded) - times(Role::Ho);
+        times(Role::Ho) == 1 && (1..=additional).all(|m| times(Role::Additional(m)) == 1)
+    })
+    .collect()
+}
+
+thread_local! {
+    /// `overload_roles` of 1 to 5 lanes.
+    static OVERLOAD_ROLES: Vec<Vec<Vec<Role>>> = (1..=5).map(overload_roles).collect();
+}
+
+/// The sum over lanes of HN and HO effects in their roles, in twentieths, furthest.
+fn overload_sums(hn: &[Furthest], ho: &[Furthest]) -> Furthest {
+    let sum = |roles: &[Role], of: fn(&Furthest) -> i64| -> i64 {
+        let in_lane = |(lane, role): (usize, &Role)| match role {
+            Role::Unloaded => 0,
+            Role::Ho => 20 * of(&ho[lane]),
+            Role::Additional(m) => ADDITIONAL[m - 1] * of(&hn[lane]),
+        };
+        roles.iter().enumerate().map(in_lane).sum()
+    };
+    let mut furthest = Furthest::NOTHING_TRIED;
+    OVERLOAD_ROLES.with(|of_lanes| {
+        for roles in &of_lanes[hn.len() - 1] {
+            furthest.take(sum(roles, |one| one.greatest), sum(roles, |one| one.least));
+        }
+    });
+    furthest
+}
+
+/// Normal, over every lane set, and overload; a farm job has 0.85 HN and no HO.
 fn traffic(job: &Parts) -> [Furthest; 2] {
     let [dynamic_greatest, dynamic_least] = dynamic_factors(job.header);
     let n = lanes(job);
@@ -311,32 +368,21 @@ fn traffic(job: &Parts) -> [Furthest; 2] {
     };
 
     let mut normal = Furthest::NOTHING_TRIED;
-    let mut overload = Furthest::NOTHING_TRIED;
-    if is_farm_job(job.header) {
-        overload.take(0, 0);
-    }
     for set in 0..1_u32 << n {
         let loaded: Vec<usize> = (0..n as usize)
             .filter(|lane| set >> lane & 1 == 1)
             .collect();
         let tried = effect(sum_at_r(&loaded));
         normal.take(tried.greatest, tried.least);
-        let ho_lanes = if is_farm_job(job.header) {
-            &[][..]
-        } else {
-            &loaded
-        };
-        for &ho_lane in ho_lanes {
-            let mut others = loaded.clone();
-            others.retain(|&lane| lane != ho_lane);
-            let beside = sum_at_r(&others);
-            let tried = effect(Furthest {
-                greatest: 20 * ho[ho_lane].greatest + beside.greatest,
-                least: 20 * ho[ho_lane].least + beside.least,
-            });
-            overload.take(tried.greatest, tried.least);
-        }
     }
+    let overload = if is_farm_job(job.header) {
+        Furthest {
+            greatest: 0,
+            least: 0,
+        }
+    } else {
+        effect(overload_sums(&hn, &ho))
+    };
     [normal, overload]
 }
 

@@ -90,6 +90,7 @@ fn traffic(value: i64, placement: &header::Placement) -> Traffic {
     for (lane, read) in traffic.lanes.iter_mut().zip(&placement.lane) {
         lane.entry = small(read.entry);
         lane.centre = read.centre;
+        lane.factor = read.factor;
     }
     traffic
 }
@@ -137,10 +138,10 @@ fn check_rest(job: &[u8], refused: bool, read: &header::Account) -> Result<(), S
         &read.overload_least_placement,
     ] {
         for (number, lane) in (1..).zip(&placement.lane) {
-            zero(&format!("lane {number}'s factor"), lane.factor)?;
             if number > lanes {
                 zero(&format!("lane {number}'s entry"), lane.entry)?;
                 zero(&format!("lane {number}'s centre"), lane.centre)?;
+                zero(&format!("lane {number}'s factor"), lane.factor)?;
             }
         }
     }
