@@ -283,6 +283,7 @@ fn wrong_placements_are_refused() {
             ("placement's effect", |call| {
                 let lanes = &mut call.answer.account.overload_greatest.lanes;
                 (lanes[0].entry, lanes[1].entry) = (1, 4);
+                (lanes[0].factor, lanes[1].factor) = (20, 0);
             }),
         ],
     );

@@ -155,7 +155,7 @@ fn state_labels(job: &Job, state: &State, question: Question) -> impl Iterator<I
         (later.contains(&row), " ties".into()),
         (governing.row > 1, " past row 1".into()),
         (size > 4_800_000_000_000_000_000, " past 4.8e18".into()),
-        (size == 4_800_100_269_000_000_000, " is the largest".into()),
+        (size == 4_800_115_362_000_000_000, " is the largest".into()),
         (size > 1 << 32, " past 32 bits".into()),
     ]
     .into_iter()

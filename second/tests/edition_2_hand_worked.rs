@@ -114,8 +114,9 @@ fn kilonewtons_and_newtons_agree() {
 
 /// Sixteen effects of 10^14 at 3000: 16 * 3000 * 10^14 = 4.8e18 either way. Five
 /// lanes under ordinates of 5000 over 100 m: HN is 7 * 1000 * 10000 + 1600 * 10000
-/// = 86000000, HO 102000000; HO at 20 and four HN at 14 twentieths are 6856000000,
-/// times 1000 * 1300 * 3 / 800000 = 33423000000 N·U, and 3000 times that counts.
+/// = 86000000, HO 102000000; HO at 20 and four HN at 20 + 18 + 16 + 14 twentieths are
+/// 7888000000, times 1000 * 1300 * 3 / 800000 = 38454000000 N·U, and 3000 times that
+/// counts.
 fn sixteen(signs: impl Fn(usize) -> i64, mark: i64, side: i64) -> Job {
     let values: Vec<(i64, i64)> = (0..16)
         .map(|at| (signs(at) * 100_000_000_000_000, mark))
@@ -134,7 +135,7 @@ fn sixteen(signs: impl Fn(usize) -> i64, mark: i64, side: i64) -> Job {
 }
 
 const SIXTEEN: i64 = 4_800_000_000_000_000_000;
-const TRAFFIC: i64 = 3000 * 33_423_000_000;
+const TRAFFIC: i64 = 3000 * 38_454_000_000;
 
 #[test]
 fn sixteen_effects_at_their_limits_in_one_row() {
@@ -146,7 +147,7 @@ fn sixteen_effects_at_their_limits_in_one_row() {
         let further = due + side * TRAFFIC;
         assert_eq!(ultimate.greatest.value, further.max(due));
         assert_eq!(ultimate.least.value, further.min(due));
-        assert_eq!(4_800_100_269_000_000_000, side * further);
+        assert_eq!(4_800_115_362_000_000_000, side * further);
     }
 }
 
@@ -233,7 +234,7 @@ fn distant_and_close_rows() {
 /// 2414100 and -996800 - 1600 * 308 = -1489600; HO is 3801300 and -1982400.
 ///
 /// Centres at 150 and 600 cm have 800 and 350 thousandths. Normal: 1150 * 18;
-/// overload: 800 * 20 and 350 * 20, r of one lane. Times 1109 * 3 / 800000.
+/// overload: 800 * 20 and 350 * 20, the one additional lane's factor. Times 1109 * 3 / 800000.
 #[test]
 fn the_arch_job() {
     let account = account_of(&arch_job());

@@ -194,10 +194,10 @@ fn outcome_labels(job: &Job, account: &Account) -> Vec<String> {
         ("overload greatest", account.overload_greatest),
         ("overload least", account.overload_least),
     ];
-    if account.overload_greatest.value == 33_423_000_000 {
+    if account.overload_greatest.value == 38_454_000_000 {
         labels.push("the largest overload greatest".into());
     }
-    if account.overload_least.value == -33_423_000_000 {
+    if account.overload_least.value == -38_454_000_000 {
         labels.push("the largest overload least".into());
     }
     for (name, traffic) in traffic {

@@ -190,12 +190,12 @@ fn two_lanes_only_where_0_9_of_both_is_more() {
 
 /// Five lanes, all ordinates 1000. Normal by lanes: 20, 2 * 18 = 36, 48, 56,
 /// 60 twentieths: all five, 60 * 18400 * 1000 * 1000 * 3 / 800000 = 4140000.
-/// Overload: HO at 20 and four HN at 14 each, their own number:
-/// (20 * 31200 + 56 * 18400) * 1000 * 1000 * 3 / 800000 = 6204000.
+/// Overload: HO at 20 and four HN at 20, 18, 16 and 14, together 68:
+/// (20 * 31200 + 68 * 18400) * 1000 * 1000 * 3 / 800000 = 7032000.
 #[test]
-fn the_ho_lane_does_not_count_for_r() {
+fn all_five_lanes() {
     let account = account(&level_job(2000, 50, vec![1000; 41]));
-    assert_eq!(values(&account), [4_140_000, 0, 6_204_000, 0]);
+    assert_eq!(values(&account), [4_140_000, 0, 7_032_000, 0]);
     assert_eq!(account.normal_greatest.set, 0b11111);
     assert_eq!(account.overload_greatest.set, 0b11111);
 }
@@ -294,9 +294,9 @@ fn nothing_is_left_out_in_vain() {
 /// The extremes at once: 1000 pieces of 5000 at h 1, so 7 * 10000 * 1000 = 7e7
 /// and the pair 1600 * 10000 = 1.6e7; five lanes at 1000, 60 twentieths, 1300:
 /// 8.6e7 * 1000 * 60 * 1300 * 3 / 800000 = 25155000000. Overload: HO 1.02e8 *
-/// 20 + 56 * 8.6e7 = 6.856e9; * 1000 * 1300 * 3 / 800000 = 33423000000.
+/// 20 + 68 * 8.6e7 = 7.888e9; * 1000 * 1300 * 3 / 800000 = 38454000000.
 /// Ultimate: sixteen effects of 1e9 at 3000 are 4.8e16, and 3000 times the
-/// traffic is 100269000000000.
+/// traffic is 115362000000000.
 #[test]
 fn the_largest_values() {
     let mut job = level_job(2079, 10, vec![1000; 209]);
@@ -318,8 +318,8 @@ fn the_largest_values() {
     let row = &mut job.rows[0];
     (row.state, row.live_kind, row.live_factor, row.first) = (2, 2, 3000, 1);
     let account = account(&job);
-    assert_eq!(values(&account), [25_155_000_000, 0, 33_423_000_000, 0]);
+    assert_eq!(values(&account), [25_155_000_000, 0, 38_454_000_000, 0]);
     let greatest = account.ultimate.greatest;
-    assert_eq!(greatest.value, 48_000_000_000_000_000 + 100_269_000_000_000);
+    assert_eq!(greatest.value, 48_000_000_000_000_000 + 115_362_000_000_000);
     assert_eq!(account.ultimate.least.value, 48_000_000_000_000_000);
 }

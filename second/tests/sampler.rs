@@ -153,7 +153,11 @@ enum Sham {
     TriesStationsOnTheLineOnly,
     TriesTheRightSideOnly,
     ReducesTheHoElement,
-    CountsTheHoLaneForR,
+    CountsTheHoLaneAsTheFirst,
+    TakesROfTheAdditionalLanes,
+    GivesFactorsByPosition,
+    GivesTheMildestTheLargest,
+    LeavesAnAdditionalLaneOut,
     RaisesEveryLane,
     TriesLimitsOnlyForCentres,
     ReadsRow1Only,
@@ -308,6 +312,7 @@ fn sham_value(job: &Job, sham: Sham, live: Live, question: Question) -> i64 {
         Sham::LoadsLane1Only => *set == 1,
         Sham::LoadsEveryLane => *set == all,
         Sham::NeverLoadsTheFifthLane => set & 0b10000 == 0,
+        Sham::LeavesAnAdditionalLaneOut => live == Live::Normal || *set != all,
         _ => true,
     };
     let hn_sum = |set: u32| lanes_of(set).map(|lane| hn[lane]).sum::<i128>();
@@ -326,13 +331,12 @@ fn sham_value(job: &Job, sham: Sham, live: Live, question: Question) -> i64 {
             furthest(
                 question,
                 loadings.map(|(lane, others)| {
-                    let counted = others | 1 << lane;
-                    let (ho_r, hn_r) = match sham {
-                        Sham::ReducesTheHoElement => (reduction(counted), reduction(counted)),
-                        Sham::CountsTheHoLaneForR => (20, reduction(counted)),
-                        _ => (20, reduction(others)),
+                    let ho_r = match sham {
+                        Sham::ReducesTheHoElement => reduction(others | 1 << lane),
+                        _ => 20,
                     };
-                    i128::from(ho_r) * ho[lane] + i128::from(hn_r) * hn_sum(others)
+                    let additional = lanes_of(others).map(|lane| hn[lane]).collect();
+                    i128::from(ho_r) * ho[lane] + sham_additional(sham, question, additional)
                 }),
             )
         }
@@ -348,6 +352,32 @@ fn sham_value(job: &Job, sham: Sham, live: Live, question: Question) -> i64 {
         _ => question.round(dividend * twentieths, divisor * 20),
     };
     i64::try_from(effect).unwrap()
+}
+
+/// The additional lanes' sum in twentieths, their effects given from the left: the
+/// further a lane goes, the larger its factor.
+fn sham_additional(sham: Sham, question: Question, mut effects: Vec<i128>) -> i128 {
+    if sham == Sham::TakesROfTheAdditionalLanes {
+        let set = (1 << effects.len()) - 1;
+        return i128::from(reduction(set)) * effects.iter().sum::<i128>();
+    }
+    if sham != Sham::GivesFactorsByPosition {
+        effects.sort_unstable();
+    }
+    let furthest_last = match sham {
+        Sham::GivesFactorsByPosition => false,
+        Sham::GivesTheMildestTheLargest => question == Question::Least,
+        _ => question == Question::Greatest,
+    };
+    if furthest_last {
+        effects.reverse();
+    }
+    let factors = match sham {
+        Sham::CountsTheHoLaneAsTheFirst => [18, 16, 14, 12],
+        _ => [20, 18, 16, 14],
+    };
+    let counted = effects.iter().zip(factors);
+    counted.map(|(effect, factor)| effect * factor).sum()
 }
 
 fn sham_state(job: &Job, account: &Account, sham: Sham, state: i64, question: Question) -> i64 {
@@ -473,13 +503,27 @@ fn sham_kernels_are_beaten() {
         Sham::TriesStationsOnTheLineOnly,
         Sham::TriesTheRightSideOnly,
         Sham::ReducesTheHoElement,
-        Sham::CountsTheHoLaneForR,
         Sham::RaisesEveryLane,
         Sham::TriesLimitsOnlyForCentres,
         Sham::ReadsRow1Only,
         Sham::LeavesNothingOut,
     ];
     are_beaten(Stream::One, &shams);
+}
+
+/// In every stream with HO.
+#[test]
+fn sham_kernels_of_additional_lanes_are_beaten() {
+    let shams = [
+        Sham::CountsTheHoLaneAsTheFirst,
+        Sham::TakesROfTheAdditionalLanes,
+        Sham::GivesFactorsByPosition,
+        Sham::GivesTheMildestTheLargest,
+        Sham::LeavesAnAdditionalLaneOut,
+    ];
+    for stream in [Stream::One, Stream::Two, Stream::Spans] {
+        are_beaten(stream, &shams);
+    }
 }
 
 #[test]
@@ -504,7 +548,6 @@ fn sham_kernels_of_edition_2_are_beaten() {
     let shams = [
         Sham::LoadsEveryLane,
         Sham::TriesStationsOnTheLineOnly,
-        Sham::CountsTheHoLaneForR,
         Sham::ReadsRow1Only,
         Sham::LeavesNothingOut,
         Sham::DropsTheHighHalf,
@@ -517,7 +560,6 @@ fn sham_kernels_of_edition_2_are_beaten() {
 #[test]
 fn sham_kernels_of_spans_by_sign_are_beaten() {
     let shams = [
-        Sham::CountsTheHoLaneForR,
         Sham::LeavesNothingOut,
         Sham::TakesTheSpanForGreatest,
         Sham::TakesTheSpanForLeast,
