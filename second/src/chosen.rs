@@ -2,10 +2,12 @@
 //! write its builder, with the reason above it, and put it at the end of
 //! BUILDERS; or, where words of Job A changed will do, put them into PAST_LIMITS.
 //! Those of edition 4 are in chosen/farm.rs, those of edition 2 in
-//! chosen/edition_2.rs, those with spans by sign in chosen/spans.rs.
+//! chosen/edition_2.rs, those with spans by sign in chosen/spans.rs. Those of
+//! additional overload lanes, in chosen/overload_lanes.rs, go with no one stream.
 
 mod edition_2;
 mod farm;
+pub mod overload_lanes;
 mod spans;
 
 use crate::edition::Edition;
@@ -99,6 +101,12 @@ pub const PAST_LIMITS: [&[Change]; 51] = [
     &[(RECORD + 2, i32::MIN)],
     &[(RECORD + 2, i32::MAX)],
 ];
+
+/// All chosen cases: those of the streams, then those that go with none.
+pub fn all() -> impl Iterator<Item = Case> {
+    let of_streams = Stream::ALL.into_iter().flat_map(cases);
+    of_streams.chain(overload_lanes::cases())
+}
 
 /// The chosen cases that go with a stream, in the order in which they are stored.
 pub fn cases(stream: Stream) -> impl Iterator<Item = Case> {

@@ -25,10 +25,11 @@ pub fn stored() -> Stored {
 }
 
 /// The cases to store: the generated ones, then those chosen by hand, stream by
-/// stream.
+/// stream; then the chosen ones that go with no stream.
 pub fn cases() -> impl Iterator<Item = Case> {
     let of_stream = |stream| generated_cases(stream).chain(chosen::cases(stream));
-    Stream::ALL.into_iter().flat_map(of_stream)
+    let of_streams = Stream::ALL.into_iter().flat_map(of_stream);
+    of_streams.chain(chosen::overload_lanes::cases())
 }
 
 /// How many of a stream's cases are stored.
