@@ -1,5 +1,5 @@
-//! 01 "Arrangements, for demand 3", 02 "Farm bridges" and "Span by sign": hand-worked
-//! arrangements, and the rules.
+//! 01 "Arrangements, for demand 3", 02 "Farm bridges", "Span by sign" and "Additional
+//! overload lanes": hand-worked arrangements, and the rules.
 
 #![allow(clippy::single_range_in_vec_init)] // One loaded range is meant.
 
@@ -167,6 +167,78 @@ fn r_is_chosen_by_the_hn_lanes() {
         overload.effect(&job, Live::Overload, Question::Greatest),
         Fraction::whole(1_920_000)
     );
+}
+
+/// Five lanes of 400 cm under ordinates of 1000, an axle of each HN on 8: 12800, and HO
+/// in lane 3: 25600. With every assignment, 20 * 25600 + 68 * 12800 = 1382400, times
+/// 1000 * 1000 * 3 / 800000 = 5184000. With 500 in lane 5 it counts half: 34, 32, 30 or
+/// 29 twentieths less... at its factor.
+#[test]
+fn additional_lanes_count_their_factors() {
+    let mut transverse = vec![1000; 41];
+    transverse[35..=37].fill(500);
+    let job = level_job(2000, 50, transverse);
+    let of = |factors: [i64; 5]| {
+        let lanes = factors.into_iter().enumerate().map(|(at, factor)| {
+            let element = [Element::Hn, Element::Ho][usize::from(at == 2)];
+            let standing = lane(element, 0, Side::Left, 400 * at as i128 + 200);
+            (at, additional(factor, standing))
+        });
+        arrangement(1, &lanes.collect::<Vec<_>>())
+    };
+    // 20 * 25600 + 12800 * (54 + 7) and so on, times 3750 / 1000.
+    for (factors, due) in [
+        ([20, 18, 0, 16, 14], 4_848_000),
+        ([18, 20, 0, 14, 16], 4_800_000),
+        ([14, 16, 0, 20, 18], 4_752_000),
+        ([14, 16, 0, 18, 20], 4_704_000),
+    ] {
+        let found = of(factors);
+        assert_eq!(found.lawful(&job, Live::Overload), Ok(()), "{factors:?}");
+        let effect = found.effect(&job, Live::Overload, Question::Greatest);
+        assert_eq!(effect, Fraction::whole(due), "{factors:?}");
+    }
+    for factors in [
+        [20, 18, 0, 16, 0],
+        [20, 18, 0, 16, 16],
+        [20, 20, 0, 16, 14],
+        [14, 14, 0, 14, 14],
+        [18, 16, 0, 14, 12],
+        [20, 18, 20, 16, 14],
+        [20, 18, 12, 16, 14],
+        [0, 0, 0, 0, 0],
+    ] {
+        assert!(
+            of(factors).lawful(&job, Live::Overload).is_err(),
+            "{factors:?}"
+        );
+    }
+}
+
+/// In normal r counts, and no lane has a factor.
+#[test]
+fn normal_has_no_factors() {
+    let job = level_job(1200, 50, vec![1000; 25]);
+    let of = |factors: [i64; 3]| {
+        let lanes = factors.into_iter().enumerate().map(|(at, factor)| {
+            let standing = lane(Element::Hn, 0, Side::Left, 400 * at as i128 + 200);
+            (at, additional(factor, standing))
+        });
+        arrangement(1, &lanes.collect::<Vec<_>>())
+    };
+    // 16 * 3 * 12800 = 614400, times 3750 / 1000.
+    let found = of([0; 3]);
+    assert_eq!(found.lawful(&job, Live::Normal), Ok(()));
+    assert_eq!(
+        found.effect(&job, Live::Normal, Question::Greatest),
+        Fraction::whole(2_304_000)
+    );
+    for factors in [[20, 18, 16], [16, 16, 16], [20, 0, 0], [0, 0, 16]] {
+        assert!(
+            of(factors).lawful(&job, Live::Normal).is_err(),
+            "{factors:?}"
+        );
+    }
 }
 
 #[test]

@@ -5,7 +5,9 @@ mod common;
 
 use common::call::{refuses, takes, Call, Change};
 use common::{definition, level_job, pieces, two_lane_job};
-use second::account::{Lane, State};
+use second::account::{Lane, State, Traffic};
+use second::chosen::overload_lanes::lanes_job;
+use second::edition::Edition;
 use second::generator::{case, Stream};
 use second::job_a::job_a;
 use second::{store, Answer};
@@ -46,6 +48,9 @@ fn a_wrong_refusal_is_refused() {
             }),
             ("not zero", |call| {
                 call.answer.account.overload_least.lanes[4].centre = 1
+            }),
+            ("not zero", |call| {
+                call.answer.account.overload_greatest.lanes[0].factor = 20
             }),
             ("not zero", |call| call.answer.account.ultimate.present = 1),
             ("not zero", |call| call.answer.account.service.least.row = 1),
@@ -287,6 +292,213 @@ fn wrong_placements_are_refused() {
             }),
         ],
     );
+}
+
+/// Overload's traffic of a call, greatest or least.
+type Overload = fn(&mut Call) -> &mut Traffic;
+
+const OVERLOADS: [Overload; 2] = [
+    |call| &mut call.answer.account.overload_greatest,
+    |call| &mut call.answer.account.overload_least,
+];
+
+/// The call with one of its overload's placements changed is refused for a reason that
+/// has these words in it.
+#[track_caller]
+fn refuses_placement(call: &Call, of: Overload, reason: &str, change: impl Fn(&mut Traffic)) {
+    let fault = call.with(|call| change(of(call))).check();
+    let fault = fault.expect_err(reason);
+    assert!(fault.contains(reason), "{fault}");
+}
+
+/// Jobs of two to five lanes, HO in lane 2, and one to four additional lanes that take
+/// 20, 18, 16 and 14 from the left, for both questions.
+fn calls_with_additional_lanes() -> impl Iterator<Item = (Call, Overload)> {
+    let ordinates = [800, 1000, 600, 400, 200];
+    let lanes = 2..=5;
+    lanes.flat_map(move |lanes| {
+        let call = Call::of(&lanes_job(Edition::One, &ordinates[..lanes]));
+        assert_eq!(call.check(), Ok(()));
+        OVERLOADS.map(|of| (call.clone(), of))
+    })
+}
+
+/// The additional lanes of that job.
+fn additional_lanes(call: &Call) -> Vec<usize> {
+    let lanes = call.answer.account.overload_greatest.lanes;
+    let found: Vec<usize> = (0..5).filter(|&lane| lanes[lane].factor != 0).collect();
+    let due = [0, 2, 3, 4];
+    assert_eq!(found, due[..found.len()]);
+    assert!(!found.is_empty());
+    found
+}
+
+#[test]
+fn wrong_factors_are_refused() {
+    for (call, of) in calls_with_additional_lanes() {
+        let additional = additional_lanes(&call);
+        let refuses = |reason, change: &dyn Fn(&mut Traffic)| {
+            refuses_placement(&call, of, reason, change);
+        };
+        for &lane in &additional {
+            let right = call.answer.account.overload_greatest.lanes[lane].factor;
+            let wrong = [
+                0,
+                10,
+                11,
+                12,
+                14,
+                16,
+                18,
+                20,
+                21,
+                -right,
+                i64::MIN,
+                i64::MAX,
+            ];
+            for factor in wrong.into_iter().filter(|&factor| factor != right) {
+                refuses("additional lanes have factor", &|traffic| {
+                    traffic.lanes[lane].factor = factor
+                });
+            }
+        }
+        // HO as the first additional lane.
+        refuses("additional lanes have factor", &|traffic| {
+            for (&lane, factor) in additional.iter().zip([18, 16, 14, 12]) {
+                traffic.lanes[lane].factor = factor;
+            }
+        });
+        if additional.len() > 1 {
+            // The r of their number.
+            refuses("additional lanes have factor", &|traffic| {
+                for &lane in &additional {
+                    traffic.lanes[lane].factor = [20, 18, 16, 14][additional.len() - 1];
+                }
+            });
+        }
+    }
+}
+
+#[test]
+fn a_factor_on_another_lane_is_refused() {
+    for (call, of) in calls_with_additional_lanes() {
+        let additional = additional_lanes(&call);
+        for factor in [20, 14, 1, -20] {
+            refuses_placement(&call, of, "lane 2: has a factor but is", |traffic| {
+                traffic.lanes[1].factor = factor
+            });
+            for past_the_last in additional.len() + 1..5 {
+                refuses_placement(&call, of, "unloaded but has a factor", |traffic| {
+                    traffic.lanes[past_the_last].factor = factor
+                });
+            }
+        }
+        // The HO lane has one's factor in its place.
+        for &lane in &additional {
+            refuses_placement(&call, of, "has a factor but is", |traffic| {
+                let lanes = &mut traffic.lanes;
+                (lanes[1].factor, lanes[lane].factor) = (lanes[lane].factor, 0);
+            });
+        }
+        refuses(
+            &call,
+            &[
+                ("lane 1: has a factor but is", |call| {
+                    call.answer.account.normal_greatest.lanes[0].factor = 20
+                }),
+                ("lane 2: has a factor but is", |call| {
+                    call.answer.account.normal_least.lanes[1].factor = 18
+                }),
+            ],
+        );
+    }
+}
+
+/// Lawful factors that give another effect: exchanged between lanes, with HO elsewhere,
+/// or without the last lane; and lanes left out without their factors.
+#[test]
+fn factors_that_do_not_give_the_value_are_refused() {
+    for (call, of) in calls_with_additional_lanes() {
+        let additional = additional_lanes(&call);
+        for (number, &lane) in additional.iter().enumerate() {
+            for &other in &additional[..number] {
+                refuses_placement(&call, of, "placement's effect", |traffic| {
+                    let factor = traffic.lanes[lane].factor;
+                    traffic.lanes[lane].factor = traffic.lanes[other].factor;
+                    traffic.lanes[other].factor = factor;
+                });
+            }
+            refuses_placement(&call, of, "placement's effect", |traffic| {
+                let (ho, hn) = (traffic.lanes[1], traffic.lanes[lane]);
+                (traffic.lanes[1].entry, traffic.lanes[1].factor) = (hn.entry, hn.factor);
+                (traffic.lanes[lane].entry, traffic.lanes[lane].factor) = (ho.entry, 0);
+            });
+            let is_last = number + 1 == additional.len();
+            let reason = if is_last {
+                "placement's effect"
+            } else {
+                "additional lanes have factor"
+            };
+            refuses_placement(&call, of, reason, |traffic| {
+                traffic.set &= !(1 << lane);
+                traffic.lanes[lane] = Lane::default();
+            });
+        }
+        refuses_placement(&call, of, "Overload", |traffic| traffic.value += 1);
+        refuses_placement(&call, of, "Overload", |traffic| traffic.value -= 1);
+    }
+}
+
+/// Lanes of 0, 800, 700, 700 and 0: HO in lane 2, the lanes of 700 at 20 and 18.
+#[test]
+fn equally_good_factors_are_free() {
+    let call = Call::of(&lanes_job(Edition::Two, &[0, 800, 700, 700, 0]));
+    let loaded = |lane: usize, factor| Lane {
+        entry: 1,
+        centre: (400 * lane as i64 + 200) * 5,
+        factor,
+    };
+    for of in OVERLOADS {
+        let takes = |change: &dyn Fn(&mut Traffic)| {
+            assert_eq!(call.with(|call| change(of(call))).check(), Ok(()));
+        };
+        takes(&|traffic| {
+            let lanes = &mut traffic.lanes;
+            assert_eq!((lanes[2].factor, lanes[3].factor), (20, 18));
+            (lanes[2].factor, lanes[3].factor) = (18, 20);
+        });
+        // A lane that gives 0, with the next factor; both, in either order.
+        takes(&|traffic| {
+            traffic.set |= 0b00001;
+            traffic.lanes[0] = loaded(0, 16);
+        });
+        for (first, last) in [(16, 14), (14, 16)] {
+            takes(&|traffic| {
+                traffic.set |= 0b10001;
+                traffic.lanes[0] = loaded(0, first);
+                traffic.lanes[4] = loaded(4, last);
+            });
+        }
+        for (reason, factor) in [
+            ("additional lanes have factor", 0),
+            ("additional lanes have factor", 14),
+            ("additional lanes have factor", 20),
+        ] {
+            refuses_placement(&call, of, reason, |traffic| {
+                traffic.set |= 0b00001;
+                traffic.lanes[0] = loaded(0, factor);
+            });
+        }
+        // It takes another's.
+        refuses_placement(&call, of, "placement's effect", |traffic| {
+            traffic.set |= 0b00001;
+            traffic.lanes[0] = loaded(0, 18);
+            traffic.lanes[3].factor = 16;
+        });
+        refuses_placement(&call, of, "unloaded but has a factor", |traffic| {
+            traffic.lanes[0].factor = 16
+        });
+    }
 }
 
 #[test]

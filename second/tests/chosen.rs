@@ -107,16 +107,33 @@ fn past_a_limit_the_word_is_refused() {
     }
 }
 
+/// Those of additional overload lanes have no fault.
+#[test]
+fn jobs_of_additional_lanes_are_accepted() {
+    for (number, mut case) in chosen::overload_lanes::cases().enumerate() {
+        let refusal = solve(&case.job, &mut case.patch).refusal;
+        assert_eq!(refusal, 0, "chosen case {number}");
+    }
+}
+
+/// They come after all others.
+#[test]
+fn jobs_of_additional_lanes_are_stored_last() {
+    let of_lanes: Vec<_> = chosen::overload_lanes::cases().collect();
+    let stored: Vec<_> = second::store::cases().collect();
+    assert_eq!(stored[stored.len() - of_lanes.len()..], of_lanes);
+}
+
 /// A case stored twice tells nothing new.
 #[test]
 fn none_is_stored_twice() {
-    for stream in Stream::ALL {
-        let generated: Vec<_> = second::store::generated_cases(stream).collect();
-        let chosen: Vec<_> = chosen::cases(stream).collect();
-        for (number, case) in chosen.iter().enumerate() {
-            let name = format!("{stream:?}, chosen case {number}");
-            assert!(!generated.contains(case), "{name}");
-            assert!(!chosen[..number].contains(case), "{name}");
-        }
+    let generated: Vec<_> = Stream::ALL
+        .into_iter()
+        .flat_map(second::store::generated_cases)
+        .collect();
+    let chosen: Vec<_> = chosen::all().collect();
+    for (number, case) in chosen.iter().enumerate() {
+        assert!(!generated.contains(case), "chosen case {number}");
+        assert!(!chosen[..number].contains(case), "chosen case {number}");
     }
 }

@@ -147,6 +147,12 @@ fn a_loaded_overload_is_refused() {
             ("it is unloaded but has a centre", |call| {
                 call.answer.account.overload_greatest.lanes[0].centre = 150
             }),
+            ("it is unloaded but has a factor", |call| {
+                call.answer.account.overload_greatest.lanes[0].factor = 20
+            }),
+            ("has a factor but is not additional", |call| {
+                call.answer.account.normal_greatest.lanes[0].factor = 17
+            }),
             ("Overload Greatest is", |call| {
                 call.answer.account.overload_greatest.value = 1
             }),

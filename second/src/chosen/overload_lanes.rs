@@ -16,7 +16,7 @@ pub const IN_EVERY_ORDER: [&[i64]; 3] = [
 ];
 
 /// Further ordinates, a lane each, from the left.
-const ORDINATES: [&[i64]; 25] = [
+const ORDINATES: [&[i64]; 28] = [
     // Lanes that tie: beside HO, with HO, all.
     &[700, 1000, 700, 500],
     &[600, 1000, 600],
@@ -40,7 +40,10 @@ const ORDINATES: [&[i64]; 25] = [
     // Both signs: the questions differ in their HO lane, in the order of the others
     // or in both.
     &[1000, -1000],
+    &[1000, 800, -1000],
+    &[-1000, -800, 1000],
     &[1000, 800, -1000, 600],
+    &[-1000, -800, 1000, -600],
     &[800, -400, 600, -1000, -200],
     &[-1000, 900, 1000, 800, -900],
     &[-600, -500, 1000],
@@ -59,7 +62,7 @@ pub const SPANS: [(i64, i64); 2] = [(122, 2000), (2000, 122)];
 /// Widths next to where the number of lanes changes, and the widest.
 pub const WIDTHS: [i64; 9] = [599, 600, 969, 970, 1339, 1340, 1709, 1710, 2079];
 
-/// Ordinates on the uneven line, a lane each.
+/// Ordinates on the uneven line, a lane each; they are stored with either sign.
 const ON_THE_UNEVEN_LINE: [&[i64]; 5] = [
     &[700, -1000],
     &[700, -1000, 400],
@@ -167,8 +170,10 @@ pub fn uneven_line_job(edition: Edition, ordinates: &[i64]) -> Job {
 fn on_the_uneven_line() -> Vec<Job> {
     let mut jobs = vec![];
     for ordinates in ON_THE_UNEVEN_LINE {
-        for edition in [Edition::One, Edition::Two] {
-            jobs.push(uneven_line_job(edition, ordinates));
+        for side in [1, -1] {
+            let ordinates: Vec<i64> = ordinates.iter().map(|ordinate| side * ordinate).collect();
+            let editions = [Edition::One, Edition::Two];
+            jobs.extend(editions.map(|edition| uneven_line_job(edition, &ordinates)));
         }
     }
     jobs

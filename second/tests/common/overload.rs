@@ -1,0 +1,88 @@
+//! Overload put together from what each lane gives, in any reading of its factors.
+
+use second::job::Job;
+use second::lanes::lane_count;
+use second::loads::{Element, Question};
+use second::traffic::{furthest_in_lane, LongitudinalEffects};
+
+/// What HN and HO give in each lane for a question, at their furthest.
+pub struct InLanes {
+    pub question: Question,
+    pub hn: Vec<i128>,
+    pub ho: Vec<i128>,
+}
+
+impl InLanes {
+    pub fn of(job: &Job, question: Question) -> InLanes {
+        let longitudinal = LongitudinalEffects::of(job);
+        let in_lanes = |element| {
+            let lanes = 0..lane_count(job.width);
+            lanes
+                .map(|lane| furthest_in_lane(job, &longitudinal, lane, element, question).effect)
+                .collect()
+        };
+        InLanes {
+            question,
+            hn: in_lanes(Element::Hn),
+            ho: in_lanes(Element::Ho),
+        }
+    }
+
+    /// The furthest number.
+    pub fn furthest(&self, numbers: impl Iterator<Item = i128>) -> i128 {
+        let furthest = match self.question {
+            Question::Greatest => numbers.max(),
+            Question::Least => numbers.min(),
+        };
+        furthest.expect("a number")
+    }
+
+    /// The furthest overload in twentieths, HO at 20, over the HO lanes and additional
+    /// lanes that are allowed, with what the additional lanes come to.
+    pub fn overload(
+        &self,
+        allowed: impl Fn(usize, &[usize]) -> bool,
+        additional: impl Fn(&[usize]) -> i128,
+    ) -> i128 {
+        let lanes = self.hn.len();
+        let mut tried = vec![];
+        for set in 0..1_u32 << lanes {
+            let loaded = || (0..lanes).filter(move |lane| set >> lane & 1 == 1);
+            for ho_lane in loaded() {
+                let others: Vec<usize> = loaded().filter(|&lane| lane != ho_lane).collect();
+                if allowed(ho_lane, &others) {
+                    tried.push(20 * self.ho[ho_lane] + additional(&others));
+                }
+            }
+        }
+        self.furthest(tried.into_iter())
+    }
+
+    /// 01's reading, before 02 "Additional overload lanes": all additional lanes at the
+    /// r of their number.
+    pub fn old_overload(&self) -> i128 {
+        self.overload(
+            |_, _| true,
+            |others| {
+                let r = [20, 20, 18, 16, 14][others.len()];
+                r * others.iter().map(|&lane| self.hn[lane]).sum::<i128>()
+            },
+        )
+    }
+}
+
+/// The effect in N·U of a sum in twentieths.
+pub fn effect(job: &Job, question: Question, twentieths: i128) -> i64 {
+    let (share, whole) = job.edition.share_of_x();
+    let dividend = 3 * share * twentieths * i128::from(job.dynamic_factor(question));
+    let n_times_g = lane_count(job.width) as i128 * i128::from(job.spacing);
+    question.round(dividend, 800_000 * whole * n_times_g) as i64
+}
+
+/// Overload's value in 01's reading; a farm job's is 0.
+pub fn old_overload(job: &Job, question: Question) -> i64 {
+    if !job.edition.has_overload() {
+        return 0;
+    }
+    effect(job, question, InLanes::of(job, question).old_overload())
+}
