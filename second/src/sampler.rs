@@ -261,15 +261,12 @@ impl<'a> Sampler<'a> {
             }
         }
         if live == Live::Overload {
-            // In any order, where the lanes are: by how far they go, for some draws.
+            // In the lanes' order, or in any.
             let mut factors = additional_factors(hn_lanes.len());
             if disturbed {
                 rng.shuffle(&mut factors);
             }
-            for (&lane, factor) in hn_lanes.iter().zip(factors) {
-                let loaded = arrangement.lanes[lane].as_mut().expect("a loaded lane");
-                loaded.factor = factor;
-            }
+            assign(&mut arrangement, &hn_lanes, &factors);
         }
         arrangement
     }
@@ -405,6 +402,14 @@ impl<'a> Sampler<'a> {
             let to = (from + between(rng, 1, 2 * k)).min(line_end);
             element.loaded = toggled(&element.loaded, from..to);
         }
+    }
+}
+
+/// Gives additional lanes their factors.
+fn assign(arrangement: &mut Arrangement, lanes: &[usize], factors: &[i64]) {
+    for (&lane, &factor) in lanes.iter().zip(factors) {
+        let loaded = arrangement.lanes[lane].as_mut().expect("a loaded lane");
+        loaded.factor = factor;
     }
 }
 

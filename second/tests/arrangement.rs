@@ -169,10 +169,10 @@ fn r_is_chosen_by_the_hn_lanes() {
     );
 }
 
-/// Five lanes of 400 cm under ordinates of 1000, an axle of each HN on 8: 12800, and HO
-/// in lane 3: 25600. With every assignment, 20 * 25600 + 68 * 12800 = 1382400, times
-/// 1000 * 1000 * 3 / 800000 = 5184000. With 500 in lane 5 it counts half: 34, 32, 30 or
-/// 29 twentieths less... at its factor.
+/// Five lanes of 400 cm, lane 5 under an ordinate of 500, the others under 1000. An axle
+/// of each HN is on 8, 12800, and of HO in lane 3, 25600. With 14 in lane 5, 20 * 25600 +
+/// (54 + 14 / 2) * 12800 = 1292800, times 1000 * 1000 * 3 / 800000 = 4848000; with 16, 18
+/// and 20 there the factors come to 60, 59 and 58 for 61, each 12800 * 3.75 = 48000 less.
 #[test]
 fn additional_lanes_count_their_factors() {
     let mut transverse = vec![1000; 41];
@@ -186,7 +186,6 @@ fn additional_lanes_count_their_factors() {
         });
         arrangement(1, &lanes.collect::<Vec<_>>())
     };
-    // 20 * 25600 + 12800 * (54 + 7) and so on, times 3750 / 1000.
     for (factors, due) in [
         ([20, 18, 0, 16, 14], 4_848_000),
         ([18, 20, 0, 14, 16], 4_800_000),

@@ -6,6 +6,8 @@ mod common;
 use common::farm_tables::{FIRST_ULTIMATE_ROW, K, LIVE, ROWS};
 use common::{definition, level_job, pieces, small_farm_job, spans_job};
 use second::arrangement::{Arrangement, LoadedLane};
+use second::chosen::overload_lanes::lanes_job;
+use second::edition::Edition;
 use second::job::Job;
 use second::loads::{Element, Live, Question, Side};
 use second::solve;
@@ -211,6 +213,74 @@ fn two_lanes() {
         normal.is_reported(&job);
         overload.is_reported(&job);
     }
+}
+
+/// The element that raises, or lowers, on a line of 8 and -6 over 5 m each: on its own
+/// piece, the pair with one axle there and the other off the line.
+fn element(lane: usize, raises: bool) -> LoadedLane {
+    let (piece, left_axle, side) = if raises {
+        (0..1, -1, Side::Right)
+    } else {
+        (1..2, 2, Side::Left)
+    };
+    LoadedLane {
+        element: Element::Hn,
+        loaded: vec![piece],
+        left_axle,
+        side,
+        centre: 400 * lane as i128 + 200,
+        factor: 0,
+    }
+}
+
+/// What a lane may have: nothing, or a raising or a lowering element, HN with any of
+/// these factors or HO with none or 20.
+fn every_choice(lane: usize, factors: &[i64]) -> Vec<Option<LoadedLane>> {
+    let mut choices = vec![None];
+    for hn in [element(lane, true), element(lane, false)] {
+        let ho = [0, 20].map(|factor| as_additional(&as_ho(&hn), factor));
+        let hn = factors.iter().map(|&factor| as_additional(&hn, factor));
+        choices.extend(hn.chain(ho).map(Some));
+    }
+    choices
+}
+
+/// Every choice in every lane: so many are lawful, and the furthest of them is reported.
+#[track_caller]
+fn additional_lanes_are_reported(ordinates: &[i64], factors: &[i64], lawful: usize) {
+    let job = lanes_job(Edition::One, ordinates);
+    let lanes = 0..ordinates.len();
+    let choices: Vec<_> = lanes.map(|lane| every_choice(lane, factors)).collect();
+    let each = choices[0].len();
+    let mut overload = Furthest::new(Live::Overload);
+    let mut found = 0;
+    for way in 0..each.pow(ordinates.len() as u32) {
+        let mut arrangement = Arrangement::empty(1);
+        for (lane, choices) in choices.iter().enumerate() {
+            arrangement.lanes[lane] = choices[way / each.pow(lane as u32) % each].clone();
+        }
+        if arrangement.lawful(&job, Live::Overload).is_ok() {
+            overload.take(&job, &arrangement);
+            found += 1;
+        }
+    }
+    assert_eq!(found, lawful);
+    overload.is_reported(&job);
+}
+
+/// HO in each lane raises or lowers, and so does each of m additional lanes, which are
+/// chosen and have their factors in any order: of three lanes 2, 2 * 4 and 2 * 8 ways for
+/// each HO lane; of four 2, 3 * 4, 6 * 8 and 6 * 16; of five 2, 4 * 4, 12 * 8, 24 * 16 and
+/// 24 * 32.
+#[test]
+fn additional_lanes() {
+    let factors = [0, 12, 14, 16, 18, 20];
+    for ordinates in [[500, 1000, 800], [1000, 800, -1000], [-300, 700, 0]] {
+        additional_lanes_are_reported(&ordinates, &factors, 3 * 26);
+    }
+    additional_lanes_are_reported(&[1000, 800, -1000, 600], &factors, 4 * 158);
+    let due = [14, 16, 18, 20];
+    additional_lanes_are_reported(&[-1000, 900, 1000, 800, -900], &due, 5 * 1266);
 }
 
 /// What every row of a farm job comes to with every omission, both k and a

@@ -21,6 +21,7 @@ use second::rng::Rng;
 use second::sampler::{first_beating, Beating, Sampler};
 use second::solve::account_of;
 use second::traffic::lanes_of;
+use std::collections::BTreeSet;
 
 /// The others half as often as edition 1.
 const STREAMS: [Stream; 5] = [
@@ -45,6 +46,25 @@ fn every_draw_is_lawful() {
                 }
             }
         }
+    }
+}
+
+/// With HO in each of five lanes, 1 + 4 + 12 + 24 + 24 assignments to sets of the others.
+#[test]
+fn draws_reach_every_assignment() {
+    let job = level_job(2000, 50, vec![1000; 41]);
+    let sampler = Sampler::new(&job);
+    let mut rng = Rng::new(1);
+    for question in Question::BOTH {
+        let drawn = (0..30_000).map(|_| {
+            let arrangement = sampler.draw(Live::Overload, question, &mut rng);
+            arrangement.lanes.map(|lane| match lane {
+                Some(lane) if lane.element == Element::Ho => -1,
+                Some(lane) => lane.factor,
+                None => 0,
+            })
+        });
+        assert_eq!(drawn.collect::<BTreeSet<_>>().len(), 5 * 65);
     }
 }
 
