@@ -123,16 +123,17 @@ impl Arrangement {
         let found: Vec<i64> = additional.map(|(_, loaded)| loaded.factor).collect();
         let due = additional_factors(found.len());
         let times = |factors: &[i64], factor| factors.iter().filter(|&&one| one == factor).count();
-        let mut all = found.iter().chain(&due);
-        match all.find(|&&factor| times(&found, factor) != times(&due, factor)) {
-            None => Ok(()),
-            Some(factor) => Err(format!(
-                "{} additional lanes have factor {factor} {} times, {} is due",
-                found.len(),
-                times(&found, *factor),
-                times(&due, *factor)
-            )),
+        // There are as many of either, so none is over where all that are due are there.
+        for &factor in &due {
+            let (found_times, due_times) = (times(&found, factor), times(&due, factor));
+            if found_times != due_times {
+                return Err(format!(
+                    "{} additional lanes have factor {factor} {found_times} times, {due_times} is due",
+                    due.len()
+                ));
+            }
         }
+        Ok(())
     }
 
     /// 3X/800000, or the edition's share of it, in N·U, with the dynamic factor of a
