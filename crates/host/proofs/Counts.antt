@@ -20,6 +20,7 @@ use Rattle.model.specs.declared.Account.{Account}
 use Rattle.model.specs.declared.Entry.{Entry}
 use Rattle.model.specs.declared.Entry.the-variants.{Unloaded, Hn, Ho}
 use Rattle.model.specs.declared.Extreme.{Extreme}
+use Rattle.model.specs.declared.Lane.{Lane}
 use Rattle.model.specs.declared.State.{State}
 use Rattle.model.specs.declared.State.the-variants.{Absent, Reported}
 use Rattle.model.proofs.Verdict.{clear, job-accepted}
@@ -59,7 +60,7 @@ module _ (job : Job) (patch : List ℕ) (a : Account) (narrow : job .deck .width
       centre = laneAt (x .placement) i .centre
 
       idle : entry ≡ Unloaded → centre < 2 ^ 63
-      idle e = omega (arith, r .idle i e)
+      idle e = omega (arith, ap (λ (y : Lane). y .centre) (r .idle i e))
 
       loaded : i < lanes job → (e : Entry) → entry ≡ e → centre < 2 ^ 63
       loaded h Unloaded e = idle e

@@ -25,15 +25,15 @@ use Rattle.lanes.specs.Loadings.{TrafficPlaced}
 module _ (job : Job) (signed : OneSigned (job .line)) (g-pos : zero < job .deck .g) (patch rest : List ℕ) (a : Account)
     (bytes : patch ≡ patchBytes (job .line) ++ rest) (positions : (sense : Sense) → PositionRight (job .line) sense (positionOf a sense)) where
   -- such a placement gives its traffic value
-  pub placed-gives : (q : Question) (live : Live) (x : Extreme) → TrafficPlaced q job live x → reportedEffect q job patch a (x .placement) ≡ trafficValue q job live
+  pub placed-gives : (q : Question) (live : Live) (x : Extreme) → TrafficPlaced q job live x → reportedEffect q job patch a live (x .placement) ≡ trafficValue q job live
   placed-gives q live x p = reported-gives q job patch rest a bytes positions (x .placement) (p .entries) live g-pos (p .sum)
 
   -- so the reported traffic value is right
   pub traffic-right : (q : Question) (live : Live) (x : Extreme) → TrafficPlaced q job live x → TrafficRight job patch a q live x
   traffic-right q live x p = record {
     value = p .value;
-    unbeaten = λ k w law. subst (NoBetter q (arranged q job k w)) (sym (p .value)) (unbeaten q job live k w signed g-pos law);
-    lawful = reported-lawful q job patch rest a bytes positions (x .placement) (p .entries) live (p .kinds);
+    unbeaten = λ k w law. subst (NoBetter q (arranged q job live k w)) (sym (p .value)) (unbeaten q job live k w signed g-pos law);
+    lawful = reported-lawful q job patch rest a bytes positions (x .placement) (p .entries) live (p .kinds) (p .factors);
     gives = placed-gives q live x p ∙ sym (p .value);
     set = p .set;
     onDeck = p .onDeck;

@@ -20,6 +20,7 @@ ghost use Rattle.model.specs.Answered.{refusalAnswer, Answered};
 const EMPTY_LANE: Lane = Lane {
     entry: Entry::Unloaded,
     centre: 0,
+    factor: 0,
 };
 
 // A value of 0 with every lane unloaded.

@@ -1,6 +1,6 @@
 -- The elements chosen for a kind: their values, and in a job that each gives its lane's best.
 use mathlib.Core.Path.{_≡_, refl, sym, _∙_, ap, ap₂, subst}
-use mathlib.Core.Bool.{true≢false}
+use mathlib.Core.Bool.{true≢false, _&&_}
 use mathlib.Core.List.{List}
 use Prim.Native.Nat.{ℕ, _-_, _*_, _^_, _<_}
 use native.Mathlib.Omega.{arith}
@@ -14,12 +14,15 @@ use Rattle.exact.specs.Choice.{if_then_else_}
 use Rattle.exact.specs.Questions.{NoBetter}
 use Rattle.exact.specs.Ranges.{countTo}
 use Rattle.exact.specs.declared.Question.{Question}
+use Rattle.exact.proofs.Choices.{over-cong}
 use Rattle.exact.proofs.Extremes.{extreme-cong}
 use Rattle.exact.proofs.Ranges.{sum-cong, count-none}
 use Rattle.model.specs.Job.{Profile, highway, rural, Job, Live, noTraffic, normal, overload}
-use Rattle.model.specs.Lanes.{bit, without, reductionFor, lanes}
+use Rattle.model.specs.Lanes.{bit, reductionFor, lanes}
 use Rattle.model.specs.Line.{Kind, HN, HO}
-use Rattle.model.specs.Traffic.{setSum, bestNormal, bestOverload, bestOn, laneEffect}
+use Rattle.model.specs.Traffic.{setSum, bestNormal, assigned, choice, besideSum, bestOverload, bestOn, laneEffect}
+use Rattle.model.proofs.Assignments.{overload-cong}
+use Rattle.model.proofs.LiveSums.{sum-on-cong}
 use Rattle.magnitudes.specs.Magnitudes.{transverseMost}
 use Rattle.centres.specs.Spans.{AcrossFits, Spanned, noSpan}
 use Rattle.centres.specs.declared.Across.{Across}
@@ -56,10 +59,13 @@ set-sum-cong r n set f g h = ap (λ (x : ℤ). r (ones set) *ℤ x) (sum-cong n 
 
 module _ (q : Question) (n : ℕ) (hn hn′ ho ho′ : ℕ → ℤ) (some : 0 < n) (a : (i : ℕ) → i < n → hn i ≡ hn′ i) (b : (i : ℕ) → i < n → ho i ≡ ho′ i) where
   best-cong : (p : Profile) (live : Live) → bestOn q p live n hn ho ≡ bestOn q p live n hn′ ho′
-  unfolding bestOn bestNormal bestOverload
+  unfolding bestOn bestNormal bestOverload besideSum
   best-cong p noTraffic = refl
   best-cong p normal = extreme-cong q (2 ^ n - 1) _ _ (λ s l. set-sum-cong (reductionFor p) n s hn hn′ a)
-  best-cong highway overload = extreme-cong q (n - 1) _ _ (λ o l. extreme-cong q (2 ^ n - 1) _ _ (λ s k. ap₂ (λ (x y : ℤ). pos 20 *ℤ x +ℤ y) (b o (omega arith)) (set-sum-cong (reductionFor highway) n (without o s) hn hn′ a)))
+  best-cong highway overload =
+      extreme-cong q (n - 1) _ _ (λ o l. over-cong q (n - 1) n _ _ (λ c.
+      let f : ℕ → ℕ = λ i. choice (c i) in
+      ap₂ (λ (x y : ℤ). if eqb (f o) 0 && assigned n f then x else pos 20 *ℤ y) (overload-cong n hn hn′ f f (b o (omega arith)) (λ i h. ap (λ (x : ℤ). pos (f i) *ℤ x) (a i h))) (b o (omega arith))))
   best-cong rural overload = refl
 
   loading-cong : (p : Profile) (live : Live) (r : Loading) → LoadingRight q p live n hn ho r → LoadingRight q p live n hn′ ho′ r
@@ -68,9 +74,11 @@ module _ (q : Question) (n : ℕ) (hn hn′ ho ho′ : ℕ → ℤ) (some : 0 < 
     kinds = l .kinds;
     small = l .small;
     apart = l .apart;
+    additional = l .additional;
+    factors = l .factors;
     value =
         l .value
-        ∙ ap₂ (λ (x y : ℤ). pos 20 *ℤ x +ℤ y) (sum-cong n _ _ (λ i h. ap (λ (x : ℤ). if eqb i (r .lane) then x else pos 0) (b i h))) (set-sum-cong (reductionFor p) n (r .set) hn hn′ a);
+        ∙ sum-on-cong p n live (λ i h. ap (λ (x : ℤ). if bit (r .set) i then x else pos 0) (a i h)) (λ i h. ap (λ (x : ℤ). if eqb i (r .lane) then x else pos 0) (b i h)) refl (λ i h. refl);
     best = l .best ∙ best-cong p live;
     near = l .near;
   }

@@ -1,4 +1,3 @@
-pub mod Filled
 pub mod Elements
 pub mod Placements
 pub mod Given

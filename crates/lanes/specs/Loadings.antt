@@ -13,14 +13,14 @@ use Rattle.model.specs.Lanes.{bit, lanes}
 use Rattle.model.specs.Traffic.{laneEffect, bestSum, trafficValue}
 use Rattle.model.specs.Arrangements.{KindsFit}
 use Rattle.model.specs.Answered.{emptyLane, laneAt, setOf}
-use Rattle.model.specs.Placements.{BestCentre, EntryRight, placedLanes, placedSum}
+use Rattle.model.specs.Placements.{BestCentre, EntryRight, placedLanes, placedSum, FactorsRight}
 use Rattle.model.specs.declared.Sense.the-variants.{Raising, Lowering}
 use Rattle.model.specs.declared.Entry.the-variants.{Unloaded, Hn, Ho}
 use Rattle.model.specs.declared.Lane.{Lane}
 use Rattle.model.specs.declared.Extreme.{Extreme}
 use Rattle.centres.specs.Spans.{Spanned}
 use Rattle.centres.specs.declared.Across.{Across}
-use Rattle.sets.specs.Sets.{LoadingRight}
+use Rattle.sets.specs.Sets.{numberAt, LoadingRight}
 use Rattle.sets.specs.declared.Loading.{Loading}
 use Rattle.lanes.specs.declared.entries.Chosen.{Chosen}
 use Rattle.lanes.specs.declared.traffic.Effects.{Effects}
@@ -31,20 +31,20 @@ effectsOf job kind = record { raising = lineEffect (job .line) kind Raising; low
 
 -- ---- the lanes of a placement
 
--- a lane by two tests, whether it is the HO lane and whether the set has it
-abbrev pub laneBy : (hn over : Chosen) → (isHo inSet : Bool) → Lane
-laneBy hn over isHo inSet =
-    if isHo then record { entry = Ho (over .sense); centre = over .centre }
-    else (if inSet then record { entry = Hn (hn .sense); centre = hn .centre } else emptyLane)
+-- a lane by two tests, whether it is the HO lane and whether the set has it, and its factor
+abbrev pub laneBy : (hn over : Chosen) → (factor : ℕ) → (isHo inSet : Bool) → Lane
+laneBy hn over factor isHo inSet =
+    if isHo then record { entry = Ho (over .sense); centre = over .centre; factor = 0 }
+    else (if inSet then record { entry = Hn (hn .sense); centre = hn .centre; factor = factor } else emptyLane)
 
--- lane i: HO in its lane, HN where the set has it
-abbrev pub laneOf : (set ho i : ℕ) → (hn over : Chosen) → Lane
-laneOf set ho i hn over = laneBy hn over (eqb i ho) (bit set i)
+-- lane i of a loading: HO in its lane, HN where the set has it
+abbrev pub laneOf : Loading → (i : ℕ) → (hn over : Chosen) → Lane
+laneOf best i hn over = laneBy hn over (numberAt (best .factors) i) (eqb i (best .lane)) (bit (best .set) i)
 
--- n lanes by the set and the HO lane, and unloaded ones to five
-pub record LanesPlaced (set ho n : ℕ) (hn over : ℕ → Chosen) (lanes : List Lane) : Type 0 where
+-- n lanes by a loading, and unloaded ones to five
+pub record LanesPlaced (best : Loading) (n : ℕ) (hn over : ℕ → Chosen) (lanes : List Lane) : Type 0 where
   pub five : length lanes ≡ 5
-  pub each : (i : ℕ) → i < n → getD lanes i emptyLane ≡ laneOf set ho i (hn i) (over i)
+  pub each : (i : ℕ) → i < n → getD lanes i emptyLane ≡ laneOf best i (hn i) (over i)
   pub past : (i : ℕ) → n ≤ i → getD lanes i emptyLane ≡ emptyLane
 
 -- ---- a traffic value
@@ -67,7 +67,8 @@ pub record TrafficPlaced (q : Question) (job : Job) (live : Live) (x : Extreme) 
   pub value : x .value ≡ trafficValue q job live
   pub entries : (i : ℕ) → i < lanes job → EntryRight q job i (laneAt (x .placement) i .entry) (laneAt (x .placement) i .centre)
   pub kinds : KindsFit (job .profile) live (placedLanes job HN (x .placement)) (placedLanes job HO (x .placement))
-  pub sum : placedSum q job (x .placement) ≡ bestSum q job live
+  pub factors : FactorsRight job live (x .placement)
+  pub sum : placedSum q job live (x .placement) ≡ bestSum q job live
   pub set : x .placement .set ≡ setOf (x .placement .lanes)
   pub onDeck : (i : ℕ) → lanes job ≤ i → laneAt (x .placement) i .entry ≡ Unloaded
-  pub idle : (i : ℕ) → laneAt (x .placement) i .entry ≡ Unloaded → laneAt (x .placement) i .centre ≡ 0
+  pub idle : (i : ℕ) → laneAt (x .placement) i .entry ≡ Unloaded → laneAt (x .placement) i ≡ emptyLane

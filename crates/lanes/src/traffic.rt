@@ -27,10 +27,10 @@ pub struct Effects {
     pub lowering: i64,
 }
 
-// Lane i of a placement: HO in its lane, HN where the set has it.
+// Lane i of a placement: HO in its lane, HN where the set has it, with its factor.
 fn lane(q: Question, span: Span, best: Loading, i: usize, hn: Effects, ho: Effects) -> Lane
-    requires { ⌜ (i < 6) × SpanFits span × LineEffectsFit hoLineMost hn × LineEffectsFit hoLineMost ho ⌝ }
-    ensures { λ r. ⌜ r ≡ laneOf (best .set) (best .lane) i (chosen q span hn) (chosen q span ho) ⌝ }
+    requires { ⌜ (i < 5) × SpanFits span × LineEffectsFit hoLineMost hn × LineEffectsFit hoLineMost ho ⌝ }
+    ensures { λ r. ⌜ r ≡ laneOf best i (chosen q span hn) (chosen q span ho) ⌝ }
 {
     if i == best.lane {
         let c = entries::choose(q, span, ho);
@@ -38,6 +38,7 @@ fn lane(q: Question, span: Span, best: Loading, i: usize, hn: Effects, ho: Effec
         return Lane {
             entry: Entry::Ho(s),
             centre: c.centre,
+            factor: 0,
         };
     }
     if sets::has(best.set, i) {
@@ -46,22 +47,25 @@ fn lane(q: Question, span: Span, best: Loading, i: usize, hn: Effects, ho: Effec
         return Lane {
             entry: Entry::Hn(s),
             centre: c.centre,
+            factor: best.factors[i],
         };
     }
     Lane {
         entry: Entry::Unloaded,
         centre: 0,
+        factor: 0,
     }
 }
 
 // The lanes of a loading's placement.
 fn placed(q: Question, across: Across, best: Loading, hn: Effects, ho: Effects) -> [Lane; 5]
     requires { ⌜ AcrossFits across × LineEffectsFit hoLineMost hn × LineEffectsFit hoLineMost ho ⌝ }
-    ensures { λ r. ⌜ LanesPlaced (best .set) (best .lane) (across .lanes) (chosenIn q across hn) (chosenIn q across ho) r ⌝ }
+    ensures { λ r. ⌜ LanesPlaced best (across .lanes) (chosenIn q across hn) (chosenIn q across ho) r ⌝ }
 {
     let none = Lane {
         entry: Entry::Unloaded,
         centre: 0,
+        factor: 0,
     };
     let mut lanes = [none; 5];
     for i in 0..across.lanes {
@@ -106,15 +110,16 @@ pub struct Extremes {
     pub overload: Extreme,
 }
 
-// The loads of a highway. Normal: the best set of lanes under HN. Overload: the best lane under HO and set of others under HN.
+// The loads of a highway. Normal: the best set of lanes under HN. Overload: the best lane under HO, others under HN and their factors.
 fn highway(q: Question, across: Across, dynamic: usize, hn: Effects, ho: Effects) -> Extremes
     requires { ⌜ AcrossFits across × (1000 ≤ dynamic) × (dynamic ≤ 1300) × LineEffectsFit hnLineMost hn × LineEffectsFit hoLineMost ho ⌝ }
     ensures { λ r. ⌜ Within trafficMost (r .normal .value) × Within trafficMost (r .overload .value) × ((job : Job) → Spanned job across → job .profile ≡ highwayLoads → dynamic ≡ job .dynamic q → hn ≡ effectsOf job HN → ho ≡ effectsOf job HO → TrafficPlaced q job normal (r .normal) × TrafficPlaced q job overload (r .overload)) ⌝ }
 {
     let light = entries::values(q, across, hn);
     let heavy = entries::values(q, across, ho);
-    let set = sets::best_normal(q, light, across.lanes);
-    let pair = sets::best_overload(q, light, heavy, across.lanes);
+    let ranks = sets::ranks(q, light, across.lanes);
+    let set = sets::best_normal(q, ranks, light, across.lanes);
+    let pair = sets::best_overload(q, ranks, light, heavy, across.lanes);
     let normal = found(q, across, dynamic, set, hn, hn);
     let overload = found(q, across, dynamic, pair, hn, ho);
     Extremes { normal, overload }

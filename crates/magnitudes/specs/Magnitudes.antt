@@ -54,17 +54,17 @@ hnLaneMost = 21500000000000
 abbrev pub hoLaneMost : ℕ
 hoLaneMost = 25500000000000
 
--- the effects of five HN lanes together
-abbrev pub hnLanesMost : ℕ
-hnLanesMost = 107500000000000
+-- an HN element's effect at a factor of at most 20
+abbrev pub factoredMost : ℕ
+factoredMost = 20 * hnLaneMost
 
 -- a set of HN lanes at its r: r times their number is at most 60
 abbrev pub setMost : ℕ
-setMost = 1290000000000000
+setMost = 60 * hnLaneMost
 
--- a live kind's sum: HO at 20 and a set; 3 times the dynamic factor times it is 7.02e18
+-- a live kind's sum: HO at 20, and additional lanes at 20, 18, 16 and 14, which are 68; 3 times the dynamic factor times it is 7.69e18
 abbrev pub sumMost : ℕ
-sumMost = 1800000000000000
+sumMost = 20 * hoLaneMost + 68 * hnLaneMost
 
 -- a traffic value in N·U: 3 times 1300 times a sum over 800000 times 10 is below 8.8e11
 abbrev pub trafficMost : ℕ

@@ -2,25 +2,26 @@
 use mathlib.Core.Path.{_≡_, refl, sym, _∙_, ap, ap₂, subst}
 use mathlib.Core.Bool.{Bool, true, false, false≢true}
 use mathlib.Core.List.{List, _++_}
-use Prim.Native.Nat.{ℕ, zero, _*_, _^_, _<_}
+use Prim.Native.Nat.{ℕ, zero, _*_, _<_}
 use native.Mathlib.Nat.{mul-pos, mul-le-mul-left}
 use native.Mathlib.Omega.{arith}
 use lib.IntN.{ℤ, pos, natAbs, _+ℤ_, _*ℤ_}
+use lib.Dec.{ltb}
 use lib.ListN.{getD, List·getD-append}
 use Rattle.exact.specs.Choice.{if_then_else_}
 use Rattle.exact.specs.Questions.{rounded}
-use Rattle.exact.specs.Ranges.{sumTo, countTo}
+use Rattle.exact.specs.Ranges.{countTo}
 use Rattle.exact.specs.declared.Question.{Question}
 use Rattle.exact.proofs.Exact.{_⊕_, _⊗_, lit, _≐_, solve}
-use Rattle.exact.proofs.Ranges.{sum-cong, sum-scale, count-cong, length-listOf, getD-listOf}
+use Rattle.exact.proofs.Ranges.{count-cong, length-listOf, getD-listOf}
 use Rattle.exact.proofs.Rounding.{rounded-scale}
 use Rattle.model.specs.Job.{InfluenceLine, Job, Live, noTraffic, normal, overload, HasTraffic}
 use Rattle.model.specs.Line.{Kind, HN, HO, axle, bestPair, patchByte, patchBytes, uniformPart, lineEffect}
-use Rattle.model.specs.Lanes.{bit, lanes, unit, ordinateIn, twentieths, CentreFits}
-use Rattle.model.specs.Traffic.{laneEffect, setSum, bestSum, effectOf, trafficValue}
-use Rattle.model.specs.Arrangements.{Element, Load, unloaded, element, Arrangement, elementLine, elementEffect, carries, loadEffect, lanesUnder, sumUnder, sumOf, arranged, KindsFit, Lawful}
+use Rattle.model.specs.Lanes.{bit, lanes, unit, ordinateIn, CentreFits}
+use Rattle.model.specs.Traffic.{laneEffect, assigned, sumOn, isAdditional, bestSum, effectOf, trafficValue}
+use Rattle.model.specs.Arrangements.{Element, Load, unloaded, element, Arrangement, elementLine, elementEffect, carries, loadEffect, lanesUnder, effectUnder, sumOf, arranged, KindsFit, Lawful}
 use Rattle.model.specs.Answered.{laneAt, positionOf, reportedElement, reportedLoad, reported, reportedEffect, PositionRight, trafficIn, extremeOf, countedTraffic}
-use Rattle.model.specs.Placements.{BestCentre, EntryRight, entryIs, placedLanes, placedUnder, placedSum}
+use Rattle.model.specs.Placements.{BestCentre, EntryRight, entryIs, placedLanes, placedUnder, factorAt, placedSum, FactorsRight}
 use Rattle.model.specs.declared.Sense.{Sense}
 use Rattle.model.specs.declared.Entry.{Entry}
 use Rattle.model.specs.declared.Entry.the-variants.{Unloaded, Hn, Ho}
@@ -30,15 +31,16 @@ use Rattle.model.proofs.Lanes.{unit-pos}
 use Rattle.model.proofs.Signs.{no-traffic}
 use Rattle.model.proofs.Pair.{pair-at}
 use Rattle.model.proofs.Uniform.{loaded-parts-given}
-use Rattle.model.proofs.Sets.{ones-count}
+use Rattle.model.proofs.Assignments.{assigned-cong}
+use Rattle.model.proofs.LiveSums.{sum-on-cong, sum-on-scale}
 use Rattle.model.proofs.Unbeaten.{bestUnder, bestOf}
 
 -- ---- any arrangement
 -- one whose every lane gives the lane's best, and whose bests together are the best sum, gives the traffic value
 pub attains : (q : Question) (job : Job) (live : Live) (w : Arrangement) → zero < job .deck .g →
-    ((kind : Kind) (i : ℕ) → i < lanes job → carries kind (w i) ≡ true → loadEffect job i (unit job) (w i) ≡ pos (unit job * unit job) *ℤ laneEffect q job kind i) →
-    bestOf q job w ≡ bestSum q job live → arranged q job (unit job) w ≡ trafficValue q job live
-unfolding arranged trafficValue effectOf sumOf sumUnder
+    ((kind : Kind) (i : ℕ) → i < lanes job → carries kind (w .load i) ≡ true → loadEffect job i (unit job) (w .load i) ≡ pos (unit job * unit job) *ℤ laneEffect q job kind i) →
+    bestOf q job live w ≡ bestSum q job live → arranged q job live (unit job) w ≡ trafficValue q job live
+unfolding arranged trafficValue effectOf sumOf
 attains q job live w g-pos each best =
     ap₂ (rounded q) top bottom ∙ rounded-scale q (n * n) (pos 3 *ℤ (pos y *ℤ bestSum q job live)) (800000 * (n * g)) (mul-pos n-pos n-pos) (mul-pos (omega arith) (mul-pos n-pos g-pos))
   where
@@ -54,21 +56,18 @@ attains q job live w g-pos each best =
     n-pos : zero < n
     n-pos = unit-pos job
 
-    lane : (kind : Kind) (i : ℕ) (t : Bool) → (t ≡ true → loadEffect job i n (w i) ≡ pos (n * n) *ℤ laneEffect q job kind i) →
-        (if t then loadEffect job i n (w i) else pos 0) ≡ pos (n * n) *ℤ (if t then laneEffect q job kind i else pos 0)
-    lane kind i true h = h refl
-    lane kind i false h = solve 1 (λ c. lit 0 ≐ c ⊗ lit 0) tt (pos (n * n))
+    lane : (kind : Kind) (i : ℕ) → i < lanes job → effectUnder job n kind w i ≡ pos (n * n) *ℤ bestUnder q job kind w i
+    lane kind i h = go (carries kind (w .load i)) (each kind i h)
+      where
+        go : (t : Bool) → (t ≡ true → loadEffect job i n (w .load i) ≡ pos (n * n) *ℤ laneEffect q job kind i) →
+            (if t then loadEffect job i n (w .load i) else pos 0) ≡ pos (n * n) *ℤ (if t then laneEffect q job kind i else pos 0)
+        go true h = h refl
+        go false h = solve 1 (λ c. lit 0 ≐ c ⊗ lit 0) tt (pos (n * n))
 
-    under : (kind : Kind) → sumUnder job n kind w ≡ pos (n * n) *ℤ bestUnder q job kind w
-    under kind =
-        let f : ℕ → ℤ = λ i. if carries kind (w i) then laneEffect q job kind i else pos 0 in
-        sum-cong (lanes job) _ (λ i. pos (n * n) *ℤ f i) (λ i l. lane kind i (carries kind (w i)) (each kind i l)) ∙ sum-scale (lanes job) (pos (n * n)) f
-
-    top : pos 3 *ℤ (pos y *ℤ sumOf job n w) ≡ pos (n * n) *ℤ (pos 3 *ℤ (pos y *ℤ bestSum q job live))
+    top : pos 3 *ℤ (pos y *ℤ sumOf job live n w) ≡ pos (n * n) *ℤ (pos 3 *ℤ (pos y *ℤ bestSum q job live))
     top =
-        let r = twentieths job (lanesUnder job HN w) in
-        ap₂ (λ (s t : ℤ). pos 3 *ℤ (pos y *ℤ (pos 20 *ℤ s +ℤ r *ℤ t))) (under HO) (under HN)
-        ∙ solve 5 (λ y c r s t. lit 3 ⊗ (y ⊗ (lit 20 ⊗ (c ⊗ s) ⊕ r ⊗ (c ⊗ t))) ≐ c ⊗ (lit 3 ⊗ (y ⊗ (lit 20 ⊗ s ⊕ r ⊗ t)))) tt (pos y) (pos (n * n)) r (bestUnder q job HO w) (bestUnder q job HN w)
+        ap (λ (x : ℤ). pos 3 *ℤ (pos y *ℤ x)) (sum-on-cong (job .profile) (lanes job) live (lane HN) (lane HO) refl (λ i _. refl) ∙ sum-on-scale (job .profile) (lanes job) (bestUnder q job HN w) (bestUnder q job HO w) (lanesUnder job HN w) (w .factor) live (pos (n * n)))
+        ∙ solve 3 (λ y c s. lit 3 ⊗ (y ⊗ (c ⊗ s)) ≐ c ⊗ (lit 3 ⊗ (y ⊗ s))) tt (pos y) (pos (n * n)) (bestOf q job live w)
         ∙ ap (λ (x : ℤ). pos (n * n) *ℤ (pos 3 *ℤ (pos y *ℤ x))) best
 
     bottom : 800000 * (n * n * (n * g)) ≡ n * n * (800000 * (n * g))
@@ -111,7 +110,7 @@ module _ (q : Question) (job : Job) (patch rest : List ℕ) (a : Account) (bytes
 
   module _ (p : Placement) (entries : (i : ℕ) → i < lanes job → EntryRight q job i (laneAt p i .entry) (laneAt p i .centre)) where
     -- the reported arrangement carries what the entries say
-    carries-entry : (kind : Kind) (i : ℕ) → carries kind (reported job patch a p i) ≡ entryIs kind (laneAt p i .entry)
+    carries-entry : (kind : Kind) (i : ℕ) → carries kind (reported job patch a p .load i) ≡ entryIs kind (laneAt p i .entry)
     unfolding reported
     carries-entry kind i = go kind (laneAt p i .entry) (laneAt p i .centre)
       where
@@ -123,12 +122,14 @@ module _ (q : Question) (job : Job) (patch rest : List ℕ) (a : Account) (bytes
         go HO (Ho sense) centre = refl
 
     -- it keeps the rules of a live kind that has as many lanes under each kind
-    pub reported-lawful : (live : Live) → KindsFit (job .profile) live (placedLanes job HN p) (placedLanes job HO p) → Lawful job live n (reported job patch a p)
+    pub reported-lawful : (live : Live) → KindsFit (job .profile) live (placedLanes job HN p) (placedLanes job HO p) → FactorsRight job live p → Lawful job live n (reported job patch a p)
     unfolding reported
-    reported-lawful live kinds = record {
+    reported-lawful live kinds factors = record {
       fine = unit-pos job;
       kinds = subst (λ (m : ℕ). KindsFit (job .profile) live m (lanesUnder job HO (reported job patch a p))) (same HN) (subst (KindsFit (job .profile) live (placedLanes job HN p)) (same HO) kinds);
       centres = λ i e h is. go i (laneAt p i .entry) (laneAt p i .centre) (entries i h) e is;
+      additional = λ i h. factors .additional i h ∙ ap (isAdditional live) (sym (carries-entry HN i));
+      factors = factors .assigned;
     }
       where
         same : (kind : Kind) → placedLanes job kind p ≡ lanesUnder job kind (reported job patch a p)
@@ -143,14 +144,14 @@ module _ (q : Question) (job : Job) (patch rest : List ℕ) (a : Account) (bytes
         go i (Ho sense) centre r e is = fits i _ e is (centre-fits HO sense i centre r)
 
     -- and where its sum is the best sum it gives the traffic value
-    pub reported-gives : (live : Live) → zero < job .deck .g → placedSum q job p ≡ bestSum q job live → reportedEffect q job patch a p ≡ trafficValue q job live
+    pub reported-gives : (live : Live) → zero < job .deck .g → placedSum q job live p ≡ bestSum q job live → reportedEffect q job patch a live p ≡ trafficValue q job live
     unfolding reported
     reported-gives live g-pos best =
         attains q job live (reported job patch a p) g-pos (λ kind i h t. go kind i (laneAt p i .entry) (laneAt p i .centre) (entries i h) (sym (carries-entry kind i) ∙ t))
-        (ap₂ _+ℤ_ (ap (λ (x : ℤ). pos 20 *ℤ x) (same HO)) (ap₂ (λ (m : ℕ) (x : ℤ). twentieths job m *ℤ x) (count-cong (lanes job) _ _ (λ i h. carries-entry HN i)) (same HN)) ∙ best)
+        (sum-on-cong (job .profile) (lanes job) live (same HN) (same HO) (count-cong (lanes job) _ _ (λ i h. carries-entry HN i)) (λ i _. refl) ∙ best)
       where
-        same : (kind : Kind) → bestUnder q job kind (reported job patch a p) ≡ placedUnder q job kind p
-        same kind = sum-cong (lanes job) _ _ (λ i h. ap (λ (t : Bool). if t then laneEffect q job kind i else pos 0) (carries-entry kind i))
+        same : (kind : Kind) (i : ℕ) → i < lanes job → bestUnder q job kind (reported job patch a p) i ≡ placedUnder q job kind p i
+        same kind i h = ap (λ (t : Bool). if t then laneEffect q job kind i else pos 0) (carries-entry kind i)
 
         go : (kind : Kind) (i : ℕ) (entry : Entry) (centre : ℕ) → EntryRight q job i entry centre → entryIs kind entry ≡ true →
             loadEffect job i n (reportedLoad job patch a entry centre) ≡ pos (n * n) *ℤ laneEffect q job kind i
@@ -160,24 +161,27 @@ module _ (q : Question) (job : Job) (patch rest : List ℕ) (a : Account) (bytes
         go HO i (Hn sense) centre r t = absurd (false≢true t)
         go HO i (Ho sense) centre r t = element-given HO sense i centre r
 
--- ---- a placement by its set of HN lanes and the test of its HO lanes
-module _ (q : Question) (job : Job) (p : Placement) (s : ℕ) (over : ℕ → Bool) (small : s < 2 ^ lanes job)
-    (lanes-hn : (i : ℕ) → i < lanes job → entryIs HN (laneAt p i .entry) ≡ bit s i) (lanes-ho : (i : ℕ) → i < lanes job → entryIs HO (laneAt p i .entry) ≡ over i) where
+-- ---- a placement by its set of HN lanes, the test of its HO lanes and its factors
+module _ (q : Question) (job : Job) (live : Live) (p : Placement) (s : ℕ) (over : ℕ → Bool) (f : ℕ → ℕ)
+    (lanes-hn : (i : ℕ) → i < lanes job → entryIs HN (laneAt p i .entry) ≡ bit s i) (lanes-ho : (i : ℕ) → i < lanes job → entryIs HO (laneAt p i .entry) ≡ over i) (factors : (i : ℕ) → i < lanes job → factorAt p i ≡ f i) where
   pub placed-lanes : (placedLanes job HN p ≡ countTo (lanes job) (bit s)) × (placedLanes job HO p ≡ countTo (lanes job) over)
   placed-lanes = (count-cong (lanes job) _ _ lanes-hn, count-cong (lanes job) _ _ lanes-ho)
 
-  pub placed-sum : placedSum q job p ≡ pos 20 *ℤ sumTo (lanes job) (λ i. if over i then laneEffect q job HO i else pos 0) +ℤ setSum (twentieths job) (lanes job) (laneEffect q job HN) s
-  unfolding setSum
+  pub placed-sum : placedSum q job live p ≡ sumOn (job .profile) live (lanes job) (λ i. if bit s i then laneEffect q job HN i else pos 0) (λ i. if over i then laneEffect q job HO i else pos 0) (countTo (lanes job) (bit s)) f
   placed-sum =
-      let n = lanes job in
-      ap₂ (λ (x y : ℤ). pos 20 *ℤ x +ℤ y) (sum-cong n _ _ (λ i h. ap (λ (t : Bool). if t then laneEffect q job HO i else pos 0) (lanes-ho i h)))
-      (ap₂ (λ (m : ℕ) (x : ℤ). twentieths job m *ℤ x) (count-cong n _ _ lanes-hn ∙ sym (ones-count n s small))
-      (sum-cong n _ _ (λ i h. ap (λ (t : Bool). if t then laneEffect q job HN i else pos 0) (lanes-hn i h))))
+      sum-on-cong (job .profile) (lanes job) live (λ i h. ap (λ (t : Bool). if t then laneEffect q job HN i else pos 0) (lanes-hn i h)) (λ i h. ap (λ (t : Bool). if t then laneEffect q job HO i else pos 0) (lanes-ho i h))
+      (placed-lanes .0) factors
+
+  pub placed-factors : ((i : ℕ) → i < lanes job → ltb 0 (f i) ≡ isAdditional live (bit s i)) → assigned (lanes job) f ≡ true → FactorsRight job live p
+  placed-factors additional assigned = record {
+    additional = λ i h. ap (ltb 0) (factors i h) ∙ additional i h ∙ ap (isAdditional live) (sym (lanes-hn i h));
+    assigned = assigned-cong (lanes job) _ f factors ∙ assigned;
+  }
 
 -- ---- a state
 -- the traffic counted for a row is its value, where the reported placement gives it
 pub counted-given : (q : Question) (job : Job) (patch : List ℕ) (a : Account) (unladen : Bool) (live : Live) →
-    (HasTraffic live → reportedEffect q job patch a (extremeOf q (trafficIn a live) .placement) ≡ trafficValue q job live) → countedTraffic q job patch a unladen live ≡ (if unladen then pos 0 else trafficValue q job live)
+    (HasTraffic live → reportedEffect q job patch a live (extremeOf q (trafficIn a live) .placement) ≡ trafficValue q job live) → countedTraffic q job patch a unladen live ≡ (if unladen then pos 0 else trafficValue q job live)
 counted-given q job patch a true live given = refl
 counted-given q job patch a false noTraffic given = sym (no-traffic q job)
 counted-given q job patch a false normal given = given tt

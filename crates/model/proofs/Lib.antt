@@ -16,6 +16,7 @@ pub mod TableLimits
 pub mod RefusalNumbers
 pub mod Accepted
 pub mod Lanes
+pub mod Assignments
 pub mod Signs
 pub mod Axles
 pub mod Pair
@@ -23,6 +24,7 @@ pub mod Trains
 pub mod Uniform
 pub mod Centre
 pub mod Sets
+pub mod LiveSums
 pub mod Unbeaten
 pub mod States
 pub mod Attained

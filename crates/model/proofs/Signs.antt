@@ -27,14 +27,15 @@ use Rattle.model.specs.Job.{Profile, highway, rural, Piece, InfluenceLin
 use Rattle.model.specs.Decode.{decode}
 use Rattle.model.specs.Refusals.{jobVerdict}
 use Rattle.model.specs.Line.{Kind, HN, HO, axle, axleSpacing, ordinate, pair, endSum, patchByte, loadedByte, sought, pieceLoad, uniformPart, station, bestPair, lineEffect}
-use Rattle.model.specs.Lanes.{without, lanes, unit, sumUnit, lowestIn, highestIn, ordinateIn, reductionFor}
-use Rattle.model.specs.Traffic.{bestOn, bestInLane, laneEffect, setSum, bestNormal, bestOverload, bestSum, effectOf, trafficValue}
+use Rattle.model.specs.Lanes.{lanes, unit, sumUnit, lowestIn, highestIn, ordinateIn, reductionFor}
+use Rattle.model.specs.Traffic.{bestOn, bestInLane, laneEffect, setSum, bestNormal, overloadSum, bestOverload, bestSum, effectOf, trafficValue}
 use Rattle.model.specs.declared.Side.{Side}
 use Rattle.model.specs.declared.Side.the-variants.{Left, Right}
 use Rattle.model.specs.declared.Sense.{Sense}
 use Rattle.model.specs.declared.Sense.the-variants.{Raising, Lowering}
 use Rattle.model.proofs.Accepted.{accepted-spaced}
-use Rattle.model.proofs.Lanes.{unit-pos}
+use Rattle.model.proofs.Lanes.{lanes-few, unit-pos}
+use Rattle.model.proofs.Assignments.{assigned-none, overload-unbeaten}
 
 -- ---- the pair
 -- at and past the line's right end the ordinate is 0, from the left only past it
@@ -157,25 +158,30 @@ pub empty-sum : (r : ℕ → ℤ) (n : ℕ) (hn : ℕ → ℤ) → setSum r n hn
 unfolding setSum
 empty-sum r n hn = ap (λ (x : ℤ). r (ones 0) *ℤ x) (sum-zero n _ (λ i l. rw (zero-div (2 ^ i)) refl)) ∙ solve 1 (λ r. r ⊗ lit 0 ≐ lit 0) tt (r (ones 0))
 
+-- HO alone gives 20 of its own
+pub alone-sum : (n : ℕ) (hn : ℕ → ℤ) (ho : ℤ) (f : ℕ → ℕ) → ((i : ℕ) → i < n → f i ≡ 0) → overloadSum n hn ho f ≡ pos 20 *ℤ ho
+unfolding overloadSum
+alone-sum n hn ho f zeros =
+    ap (λ (x : ℤ). pos 20 *ℤ ho +ℤ x) (sum-zero n _ (λ i h. ap (λ (k : ℕ). pos k *ℤ hn i) (zeros i h) ∙ solve 1 (λ x. lit 0 ⊗ x ≐ lit 0) tt (hn i)))
+    ∙ solve 1 (λ x. x ⊕ lit 0 ≐ x) tt (pos 20 *ℤ ho)
+
 -- no best of n lanes is beaten by 0
-on-zero : (q : Question) (p : Profile) (live : Live) (n : ℕ) (hn ho : ℕ → ℤ) → NoBetter q (pos 0) (ho 0) → NoBetter q (pos 0) (bestOn q p live n hn ho)
-unfolding bestOn bestNormal bestOverload
-on-zero q p noTraffic n hn ho h = no-better-refl q (pos 0)
-on-zero q p normal n hn ho h =
+on-zero : (q : Question) (p : Profile) (live : Live) (n : ℕ) (hn ho : ℕ → ℤ) → 0 < n → NoBetter q (pos 0) (ho 0) → NoBetter q (pos 0) (bestOn q p live n hn ho)
+unfolding bestOn bestNormal
+on-zero q p noTraffic n hn ho some h = no-better-refl q (pos 0)
+on-zero q p normal n hn ho some h =
     let r = reductionFor p in
     subst (λ (x : ℤ). NoBetter q x (extreme q (2 ^ n - 1) (setSum r n hn))) (empty-sum r n hn) (extreme-bounds q (2 ^ n - 1) (setSum r n hn) 0 (omega arith))
-on-zero q highway overload n hn ho h =
-    let r = reductionFor highway in
-    let f : ℕ → ℕ → ℤ = λ o set. pos 20 *ℤ ho o +ℤ setSum r n hn (without o set) in
+on-zero q highway overload n hn ho some h =
     no-better-trans q (pos 0) (pos 20 *ℤ ho 0) _ (multiple-zero q 20 (ho 0) h)
-    (no-better-trans q _ (f 0 0) _ (no-better-of-eq q (solve 1 (λ x. x ≐ x ⊕ lit 0) tt (pos 20 *ℤ ho 0) ∙ ap (λ (x : ℤ). pos 20 *ℤ ho 0 +ℤ x) (sym (empty-sum r n hn))))
-    (no-better-trans q _ _ _ (extreme-bounds q (2 ^ n - 1) (f 0) 0 (omega arith)) (extreme-bounds q (n - 1) (λ o. extreme q (2 ^ n - 1) (f o)) 0 (omega arith))))
-on-zero q rural overload n hn ho h = no-better-refl q (pos 0)
+    (subst (λ (x : ℤ). NoBetter q x (bestOverload q n hn ho)) (alone-sum n hn (ho 0) (λ i. 0) (λ i _. refl))
+    (overload-unbeaten q n hn ho 0 (λ i. 0) some refl (assigned-none n (λ i. 0) (λ i _. refl))))
+on-zero q rural overload n hn ho some h = no-better-refl q (pos 0)
 
 -- nor is a job's best sum
 pub sum-zero-bound : (q : Question) (job : Job) (live : Live) → NoBetter q (pos 0) (bestSum q job live)
 unfolding bestSum
-sum-zero-bound q job live = on-zero q (job .profile) live (lanes job) (laneEffect q job HN) (laneEffect q job HO) (lane-zero q job HO 0)
+sum-zero-bound q job live = on-zero q (job .profile) live (lanes job) (laneEffect q job HN) (laneEffect q job HO) (lanes-few job .0) (lane-zero q job HO 0)
 
 -- ---- the value
 rounded-zero : (q : Question) (d : ℕ) → rounded q (pos 0) d ≡ pos 0

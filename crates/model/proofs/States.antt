@@ -195,9 +195,9 @@ module _ (q : Question) (job : Job) (limit : Limit) (g : Governs) (is-value : st
   -- nor with any arrangement of the row's live kind
   pub unbeaten-laden : OneSigned (job .line) → zero < job .deck .g →
       (r a : ℕ) (out : ℕ → Bool) (k : ℕ) (w : Arrangement) → RowOf job limit r → a ≤ job .row r .others → MayOmit (job .effect) (job .row r .chain a) out → Lawful job (job .row r .live) k w →
-      NoBetter q (rowValue (job .effect) (job .row r) a out (arranged q job k w)) (g .value)
+      NoBetter q (rowValue (job .effect) (job .row r) a out (arranged q job (job .row r .live) k w)) (g .value)
   unbeaten-laden signed g-pos r a out k w of among may law =
       let f = job .row r .factor in
       let t = trafficValue q job (job .row r .live) in
-      under r a out (arranged q job k w) of among may
+      under r a out (arranged q job (job .row r .live) k w) of among may
       (no-better-trans q _ (pos f *ℤ t) _ (no-better-scale q f _ t (unbeaten q job (job .row r .live) k w signed g-pos law)) (better-right q (pos 0) (pos f *ℤ t)))

@@ -9,9 +9,9 @@ use Rattle.model.specs.declared.Lane.{Lane}
 use Rattle.model.specs.declared.Placement.{Placement}
 use Rattle.model.specs.declared.Traffic.{Traffic}
 
--- a lane's entry and centre; its factor in twentieths is reserved
+-- a lane's entry, its centre and its factor in twentieths
 abbrev pub laneNumbers : Lane → List ℤ
-laneNumbers l = pos (entryNumber (l .entry)) ∷ pos (l .centre) ∷ pos 0 ∷ []
+laneNumbers l = pos (entryNumber (l .entry)) ∷ pos (l .centre) ∷ pos (l .factor) ∷ []
 
 -- the first n lanes of a placement
 abbrev pub lanesNumbers : Placement → ℕ → List ℤ

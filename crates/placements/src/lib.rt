@@ -55,7 +55,7 @@ fn entry_number(e: Entry) -> u64
     }
 }
 
-// A lane's entry and centre, and its reserved factor.
+// A lane's entry, its centre and its factor.
 fn put_lane(out: &mut [u8], at: usize, l: Lane) -> usize
     requires { ⌜ at + 24 ≤ length (now out) ⌝ }
     requires { ⌜ l .centre < 2 ^ 63 ⌝ }
@@ -64,7 +64,7 @@ fn put_lane(out: &mut [u8], at: usize, l: Lane) -> usize
     let entry = l.entry;
     let mut end = numbers::put_count(out, at, entry_number(entry));
     end = numbers::put_count(out, end, l.centre as u64);
-    numbers::put_count(out, end, 0)
+    numbers::put_count(out, end, l.factor as u64)
 }
 
 // The lanes of a placement.

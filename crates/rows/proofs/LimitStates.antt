@@ -36,7 +36,7 @@ module _ (job : Job) (patch : List ℕ) (a : Account) (limit : Limit) (signed : 
   -- the values in hand are the job's, and the reported placements give them
   pub record Given (q : Question) (traffic : Live → ℤ) : Type 0 where
     pub values : (live : Live) → traffic live ≡ trafficValue q job live
-    pub gives : (live : Live) → HasTraffic live → reportedEffect q job patch a (extremeOf q (trafficIn a live) .placement) ≡ trafficValue q job live
+    pub gives : (live : Live) → HasTraffic live → reportedEffect q job patch a live (extremeOf q (trafficIn a live) .placement) ≡ trafficValue q job live
 
   same-value : (q : Question) (traffic : Live → ℤ) → Given q traffic → stateValue q job limit ≡ governs q (job .effect) (job .row) traffic limit (job .rows)
   same-value q traffic g = governing-cong q (job .row) _ _ limit (job .rows) (λ r. best-cong q (job .effect) (trafficValue q job) traffic (job .row r) (sym (g .values (job .row r .live))))

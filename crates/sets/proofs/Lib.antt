@@ -1,5 +1,9 @@
-pub mod Reduced
 pub mod SetNumbers
-pub mod Growth
+pub mod Filled
+pub mod Groups
+pub mod Reduced
+pub mod Places
+pub mod FirstSets
+pub mod Factors
 pub mod Best
 pub mod Rural

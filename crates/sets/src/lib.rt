@@ -1,18 +1,18 @@
-// Sets of lanes, their r, and the best of them, grown by the best lane that is left: no set of as many lanes beats it.
+// Sets of lanes, their r and additional lanes' factors, and the best of them by the lanes' ranks: no set or assignment is searched.
 use exact::Question;
 ghost use mathlib.Core.Path.{_≡_};
-ghost use Prim.Native.Nat.{ℕ, _+_, _≤_, _<_, _^_};
+ghost use Prim.Native.Nat.{ℕ, _+_, _-_, _*_, _≤_, _<_, _^_};
 ghost use lib.Count.{ones};
 ghost use lib.Dec.{ltb};
-ghost use lib.IntN.{ℤ, pos};
+ghost use lib.IntN.{ℤ, pos, _+ℤ_};
 ghost use Rattle.exact.specs.Bounds.{Within};
 ghost use Rattle.exact.specs.Choice.{if_then_else_};
 ghost use Rattle.exact.specs.Questions.{beats as beatsFor, NoBetter};
 ghost use Rattle.exact.specs.declared.Question.{Question};
 ghost use Rattle.model.specs.Job.{highway, rural, normal, overload};
-ghost use Rattle.model.specs.Lanes.{bit, reduction as reductionOf};
-ghost use Rattle.magnitudes.specs.Magnitudes.{hnLaneMost, hoLaneMost, hnLanesMost};
-ghost use Rattle.sets.specs.Sets.{valueAt, isFree, ValuesFit, BestFree, added, Grown, Reaches, BestBeside, OverloadAt, LoadingRight};
+ghost use Rattle.model.specs.Lanes.{bit, reduction as reductionOf, additional as additionalOf};
+ghost use Rattle.magnitudes.specs.Magnitudes.{hnLaneMost, hoLaneMost, factoredMost};
+ghost use Rattle.sets.specs.Sets.{valueAt, numberAt, ValuesFit, precedes as precedesOf, rank as rankOf, Ranked, FirstLanes, FirstAt, factorBy, AdditionalLanes, OverloadAt, LoadingRight};
 
 // Lane i's bit.
 pub fn has(set: u32, i: usize) -> bool
@@ -41,6 +41,96 @@ pub fn loaded(set: u32, lane: usize) -> u32
     set
 }
 
+// ---- ranks
+
+// Whether lane k precedes lane i.
+fn precedes(q: Question, values: [i64; 5], k: usize, i: usize) -> bool
+    requires { ⌜ (k < 5) × (i < 5) ⌝ }
+    ensures { λ r. ⌜ r ≡ precedesOf q (valueAt values) k i ⌝ }
+{
+    if k < i {
+        return !exact::beats(q, values[i], values[k]);
+    }
+    exact::beats(q, values[k], values[i])
+}
+
+// 1 where lane k precedes lane i, else 0.
+fn ahead(q: Question, values: [i64; 5], k: usize, i: usize) -> usize
+    requires { ⌜ (k < 5) × (i < 5) ⌝ }
+    ensures { λ r. ⌜ (r ≡ (if precedesOf q (valueAt values) k i then 1 else 0)) × (r ≤ 1) ⌝ }
+{
+    if precedes(q, values, k, i) {
+        return 1;
+    }
+    0
+}
+
+// Lane i's rank among n lanes.
+fn rank(q: Question, values: [i64; 5], n: usize, i: usize) -> usize
+    requires { ⌜ (n ≤ 5) × (i < 5) ⌝ }
+    ensures { λ r. ⌜ r ≡ rankOf q n (valueAt values) i ⌝ }
+{
+    let mut r: usize = 0;
+    for k in 0..n {
+        r += ahead(q, values, k, i);
+    }
+    r
+}
+
+// The rank of each of n lanes.
+pub fn ranks(q: Question, values: [i64; 5], n: usize) -> [usize; 5]
+    requires { ⌜ n ≤ 5 ⌝ }
+    ensures { λ r. ⌜ Ranked q n (valueAt values) r ⌝ }
+{
+    let mut all = [0usize; 5];
+    for i in 0..n {
+        all[i] = rank(q, values, n, i);
+    }
+    all
+}
+
+// ---- a set and its sum
+
+// A set of lanes and the sum of what they give.
+struct Group {
+    set: u32,
+    sum: i64,
+}
+
+// A group with lane i, which gives this, where it is loaded.
+fn joined(group: Group, loaded: bool, i: usize, value: i64) -> Group
+    requires { ⌜ (i < 5) × (group .set < 32) × Within (4 * factoredMost) (group .sum) × Within factoredMost value ⌝ }
+    ensures { λ r. ⌜ r ≡ (if loaded then record { set = group .set + 2 ^ i; sum = group .sum +ℤ value } else group) ⌝ }
+{
+    if loaded {
+        return Group {
+            set: with(i, group.set),
+            sum: group.sum + value,
+        };
+    }
+    group
+}
+
+// The HO lane, 5 where there is none, the set of the HN lanes, each lane's factor in twentieths, 0 where it is not additional, and their sum.
+pub struct Loading {
+    pub value: i64,
+    pub lane: usize,
+    pub set: u32,
+    pub factors: [u32; 5],
+}
+
+// The better of two loadings, the first at a tie.
+fn better(q: Question, a: Loading, b: Loading) -> Loading
+    ensures { λ r. ⌜ r ≡ (if beatsFor q (b .value) (a .value) then b else a) ⌝ }
+{
+    if exact::beats(q, b.value, a.value) {
+        return b;
+    }
+    a
+}
+
+// ---- normal
+
 // r in twentieths: the ones of the set choose.
 fn reduction(set: u32) -> i64
     ensures { λ r. ⌜ (r ≡ reductionOf (ones set)) × Within 20 r ⌝ }
@@ -57,164 +147,138 @@ fn reduction(set: u32) -> i64
     }
 }
 
-// Whether lane i is neither in the set nor lane o.
-fn free(set: u32, o: usize, i: usize) -> bool
-    requires { ⌜ i < 32 ⌝ }
-    ensures { λ r. ⌜ r ≡ isFree set o i ⌝ }
+// The lanes whose rank is below m.
+fn first_lanes(ranks: [usize; 5], values: [i64; 5], n: usize, m: usize) -> Group
+    requires { ⌜ (n ≤ 5) × ((i : ℕ) → i < n → Within hnLaneMost (valueAt values i)) ⌝ }
+    ensures { λ r. ⌜ FirstLanes n (numberAt ranks) (valueAt values) m r ⌝ }
 {
-    if i == o {
-        return false;
-    }
-    !has(set, i)
-}
-
-// A lane and its value.
-struct Pick {
-    value: i64,
-    at: usize,
-}
-
-// A lane that is left and no worse than the best so far, else the best so far.
-fn consider(q: Question, best: Pick, left: bool, value: i64, at: usize) -> Pick
-    ensures { λ r. ⌜ r ≡ (if left then (if beatsFor q (best .value) value then best else record { value = value; at = at }) else best) ⌝ }
-{
-    if left {
-        if exact::beats(q, best.value, value) {
-            return best;
-        }
-        return Pick { value, at };
-    }
-    best
-}
-
-// The best of n lanes that are left; lane n is none.
-fn next(q: Question, values: [i64; 5], n: usize, o: usize, set: u32) -> Pick
-    requires { ⌜ (n ≤ 5) × ValuesFit q hnLaneMost n (valueAt values) ⌝ }
-    ensures { λ r. ⌜ BestFree q n (valueAt values) set o n r ⌝ }
-{
-    let mut best = Pick { value: 0, at: n };
+    let mut group = Group { set: 0, sum: 0 };
     for i in 0..n {
-        best = consider(q, best, free(set, o, i), values[i], i);
+        group = joined(group, ranks[i] < m, i, values[i]);
     }
-    best
+    group
 }
 
-// A set of lanes with the sum of their values, and the best of the sets on the way to it, at its r.
-struct Growing {
-    set: u32,
-    sum: i64,
-    best: i64,
-    chosen: u32,
-}
-
-// A lane with its value, which the set lacks, added.
-fn add(q: Question, s: Growing, lane: usize, value: i64) -> Growing
-    requires { ⌜ (lane < 5) × (s .set < 32) × Within hnLanesMost (s .sum) × Within hnLaneMost value ⌝ }
-    ensures { λ r. ⌜ r ≡ added q s lane value ⌝ }
+// The m first lanes under HN, at their r.
+fn normal_at(ranks: [usize; 5], hn: [i64; 5], n: usize, m: usize) -> Loading
+    requires { ⌜ (n ≤ 5) × ((i : ℕ) → i < n → Within hnLaneMost (valueAt hn i)) ⌝ }
+    ensures { λ r. ⌜ FirstAt n (numberAt ranks) (valueAt hn) m r ⌝ }
 {
-    let set = with(lane, s.set);
-    let sum = s.sum + value;
-    let best = reduction(set) * sum;
-    if exact::beats(q, best, s.best) {
-        return Growing {
-            set,
-            sum,
-            best,
-            chosen: set,
-        };
+    let group = first_lanes(ranks, hn, n, m);
+    let value = reduction(group.set) * group.sum;
+    Loading {
+        value,
+        lane: 5,
+        set: group.set,
+        factors: [0; 5],
     }
-    Growing {
-        set,
-        sum,
-        best: s.best,
-        chosen: s.chosen,
-    }
-}
-
-// The best lane that is left, added where there is one.
-fn grow(q: Question, values: [i64; 5], n: usize, o: usize, s: Growing) -> Growing
-    requires { ⌜ (n ≤ 5) × ValuesFit q hnLaneMost n (valueAt values) × Grown q n (valueAt values) o s ⌝ }
-    ensures { λ r. ⌜ Grown q n (valueAt values) o r × ((m : ℕ) → Reaches n o m (s .set) → Reaches n o (m + 1) (r .set)) ⌝ }
-{
-    let lane = next(q, values, n, o, s.set);
-    if lane.at == n {
-        return s;
-    }
-    add(q, s, lane.at, lane.value)
-}
-
-// The best set of n lanes without lane o.
-fn beside(q: Question, values: [i64; 5], n: usize, o: usize) -> Growing
-    requires { ⌜ (n ≤ 5) × ValuesFit q hnLaneMost n (valueAt values) ⌝ }
-    ensures { λ r. ⌜ BestBeside q n (valueAt values) o n (r .best) (r .chosen) ⌝ }
-{
-    let mut s = Growing {
-        set: 0,
-        sum: 0,
-        best: 0,
-        chosen: 0,
-    };
-    for m in 0..n {
-        s = grow(q, values, n, o, s);
-    }
-    s
-}
-
-// The HO lane, 5 where there is none, the set of the HN lanes, and their sum.
-pub struct Loading {
-    pub value: i64,
-    pub lane: usize,
-    pub set: u32,
 }
 
 // The best set of n lanes of a highway.
-pub fn best_normal(q: Question, hn: [i64; 5], n: usize) -> Loading
-    requires { ⌜ (n ≤ 5) × ValuesFit q hnLaneMost n (valueAt hn) ⌝ }
+pub fn best_normal(q: Question, ranks: [usize; 5], hn: [i64; 5], n: usize) -> Loading
+    requires { ⌜ (n ≤ 5) × Ranked q n (valueAt hn) ranks × ValuesFit q hnLaneMost n (valueAt hn) ⌝ }
     ensures { λ r. ⌜ ((ho : ℕ → ℤ) → LoadingRight q highway normal n (valueAt hn) ho r) ⌝ }
 {
-    let s = beside(q, hn, n, 5);
-    Loading {
-        value: s.best,
-        lane: 5,
-        set: s.chosen,
-    }
-}
-
-// HO of this value in a lane, at the r of one lane, and the best set beside it.
-fn overload_at(q: Question, hn: [i64; 5], n: usize, ho: i64, lane: usize) -> Loading
-    requires { ⌜ (n ≤ 5) × ValuesFit q hnLaneMost n (valueAt hn) × Within hoLaneMost ho ⌝ }
-    ensures { λ r. ⌜ OverloadAt q n (valueAt hn) ho lane r ⌝ }
-{
-    let s = beside(q, hn, n, lane);
-    let value = reduction(1) * ho + s.best;
-    Loading {
-        value,
-        lane,
-        set: s.chosen,
-    }
-}
-
-// The better of two loadings, the first at a tie.
-fn better(q: Question, a: Loading, b: Loading) -> Loading
-    ensures { λ r. ⌜ r ≡ (if beatsFor q (b .value) (a .value) then b else a) ⌝ }
-{
-    if exact::beats(q, b.value, a.value) {
-        return b;
-    }
-    a
-}
-
-// The best HO lane of a highway and set beside it.
-pub fn best_overload(q: Question, hn: [i64; 5], ho: [i64; 5], n: usize) -> Loading
-    requires { ⌜ (0 < n) × (n ≤ 5) × ValuesFit q hnLaneMost n (valueAt hn) × ((i : ℕ) → i < n → Within hoLaneMost (valueAt ho i)) ⌝ }
-    ensures { λ r. ⌜ LoadingRight q highway overload n (valueAt hn) (valueAt ho) r ⌝ }
-{
-    let mut best = overload_at(q, hn, n, ho[0], 0);
-    for lane in 1..n {
-        best = better(q, best, overload_at(q, hn, n, ho[lane], lane));
+    let mut best = normal_at(ranks, hn, n, 0);
+    for m in 1..n + 1 {
+        best = better(q, best, normal_at(ranks, hn, n, m));
     }
     best
 }
+
+// ---- overload
+
+// The factor of additional lane m, the first being 0.
+fn additional(m: usize) -> u32
+    ensures { λ r. ⌜ (r ≡ additionalOf m) × (r ≤ 20) ⌝ }
+{
+    if m < 3 {
+        return 20 - 2 * (m as u32);
+    }
+    14
+}
+
+// A lane's rank among all but one of another rank.
+fn place(rank: usize, other: usize) -> usize
+    ensures { λ r. ⌜ r ≡ (if ltb other rank then rank - 1 else rank) ⌝ }
+{
+    if other < rank {
+        return rank - 1;
+    }
+    rank
+}
+
+// Lane i's factor beside HO in lane o: a lane that gives nothing stays unloaded.
+fn factor(q: Question, ranks: [usize; 5], hn: [i64; 5], o: usize, i: usize) -> u32
+    requires { ⌜ (o < 5) × (i < 5) ⌝ }
+    ensures { λ r. ⌜ (r ≡ factorBy q (numberAt ranks) (valueAt hn) o i) × (r ≤ 20) ⌝ }
+{
+    if i == o {
+        return 0;
+    }
+    if exact::beats(q, hn[i], 0) {
+        return additional(place(ranks[i], ranks[o]));
+    }
+    0
+}
+
+// The additional lanes beside an HO lane, and each lane's factor.
+struct Others {
+    group: Group,
+    factors: [u32; 5],
+}
+
+// The lanes beside HO in lane o, each at its factor.
+fn beside(q: Question, ranks: [usize; 5], hn: [i64; 5], n: usize, o: usize) -> Others
+    requires { ⌜ (n ≤ 5) × (o < 5) × ((i : ℕ) → i < n → Within hnLaneMost (valueAt hn i)) ⌝ }
+    ensures { λ r. ⌜ AdditionalLanes n (factorBy q (numberAt ranks) (valueAt hn) o) (valueAt hn) (r .group) (r .factors) ⌝ }
+{
+    let mut group = Group { set: 0, sum: 0 };
+    let mut factors = [0u32; 5];
+    for i in 0..n {
+        let f = factor(q, ranks, hn, o, i);
+        group = joined(group, f > 0, i, (f as i64) * hn[i]);
+        factors[i] = f;
+    }
+    Others { group, factors }
+}
+
+// HO of this value in lane o, at 20, and the lanes beside it.
+fn overload_at(q: Question, ranks: [usize; 5], hn: [i64; 5], n: usize, ho: i64, o: usize) -> Loading
+    requires { ⌜ (n ≤ 5) × (o < 5) × ((i : ℕ) → i < n → Within hnLaneMost (valueAt hn i)) × Within hoLaneMost ho ⌝ }
+    ensures { λ r. ⌜ OverloadAt n (factorBy q (numberAt ranks) (valueAt hn) o) (valueAt hn) ho o r ⌝ }
+{
+    let others = beside(q, ranks, hn, n, o);
+    let group = others.group;
+    let factors = others.factors;
+    let value = 20 * ho + group.sum;
+    Loading {
+        value,
+        lane: o,
+        set: group.set,
+        factors,
+    }
+}
+
+// The best HO lane of a highway, additional lanes and assignment.
+pub fn best_overload(
+    q: Question,
+    ranks: [usize; 5],
+    hn: [i64; 5],
+    ho: [i64; 5],
+    n: usize,
+) -> Loading
+    requires { ⌜ (0 < n) × (n ≤ 5) × Ranked q n (valueAt hn) ranks × ValuesFit q hnLaneMost n (valueAt hn) × ((i : ℕ) → i < n → Within hoLaneMost (valueAt ho i)) ⌝ }
+    ensures { λ r. ⌜ LoadingRight q highway overload n (valueAt hn) (valueAt ho) r ⌝ }
+{
+    let mut best = overload_at(q, ranks, hn, n, ho[0], 0);
+    for o in 1..n {
+        best = better(q, best, overload_at(q, ranks, hn, n, ho[o], o));
+    }
+    best
+}
+
+// ---- a rural bridge
 
 // No lane loaded: the overload of a rural bridge, and the best set of one lane that gives nothing.
 pub fn no_lane() -> Loading
@@ -225,6 +289,7 @@ pub fn no_lane() -> Loading
         value: 0,
         lane: 5,
         set: 0,
+        factors: [0; 5],
     }
 }
 
@@ -240,5 +305,6 @@ pub fn one_lane(value: i64) -> Loading
         value: 17 * value,
         lane: 5,
         set: 1,
+        factors: [0; 5],
     }
 }

@@ -1,60 +1,48 @@
-use mathlib.Core.Path.{refl, sym, _∙_, ap, subst}
-use lib.Count.{ones}
+use mathlib.Core.Path.{_≡_, refl, _∙_, ap}
+use Prim.Native.Nat.{_*_}
 use lib.Dec.{lit<}
 use lib.IntN.{ℤ, pos, _+ℤ_, _*ℤ_}
 use mir.Syntax.{w64}
 use borrow.Author.Needs.{needs}
-use Rattle.exact.specs.Bounds.{Within}
-use Rattle.exact.specs.Questions.{NoBetter}
-use Rattle.exact.proofs.Extremes.{no-better-refl, no-better-add}
-use Rattle.exact.proofs.Held.{Kept, arg, known, got, told, plus, plus!, times, times! }
-use Rattle.exact.proofs.Weights.{count-le}
-use Rattle.model.specs.Lanes.{bit, reduction}
-use Rattle.model.specs.Traffic.{setSum}
-use Rattle.magnitudes.specs.Magnitudes.{hoLaneMost, setMost}
-use Rattle.sets.specs.Sets.{valueAt}
-use Rattle.sets.proofs.Best.{set-near}
+use Rattle.exact.proofs.Held.{Kept, arg, lit, known, plus, plus!, times, times! }
+use Rattle.model.specs.Traffic.{overloadSum}
+use Rattle.magnitudes.specs.Magnitudes.{hoLaneMost, factoredMost}
 use Rattle.sets.proofs.overload_at.Statement.{statement}
 use Rattle.sets.proofs.overload_at.Tie as tie
 
-module _ (c : tie.After-reduction) where
-  abbrev s : tie.Start
-  s = c .before .before
-
-  abbrev best : ℤ
-  best = c .before .beside .result .best
-
+-- HO at 20
+module _ (s : tie.Start) where
   abbrev ho : Kept w64 hoLaneMost (s .args .ho)
-  ho = (_, arg (s .fits .ho) (s .pre .2))
+  ho = (_, arg (s .fits .ho) (s .pre .3))
 
-  abbrev rest : Kept w64 setMost best
-  rest = (
-    _,
-    known w64 (subst (Within setMost) (sym (c .before .beside .ensures .value)) (set-near (s .args .n) (valueAt (s .args .hn)) (c .before .beside .result .chosen) (s .pre .0) (s .pre .1 .near) (c .before .beside .ensures .small))) (lit< tt),
-  )
+  abbrev heavy : Kept w64 (20 * hoLaneMost) (pos 20 *ℤ s .args .ho)
+  heavy = (_, times (lit w64 20 (lit< tt)) (ho .1) (lit< tt))
+
+-- and the others
+module _ (c : tie.After-struct-told) where
+  abbrev s : tie.Start
+  s = c .before .before .before .before .before
+
+  abbrev rest : Kept w64 (5 * factoredMost) (c .before .before .before .before .beside .result .group .sum)
+  rest = (_, known w64 (c .before .before .before .before .beside .ensures .near) (lit< tt))
 
 mul-value : tie.Need-mul-value
-mul-value c = times! (got w64 (c .reduction .ok) (c .reduction .ensures)) (ho c .1) (lit< tt)
+mul-value c = times! (lit w64 20 (lit< tt)) (ho (c .before .before .before) .1) (lit< tt)
 
 add-value : tie.Need-add-value
-add-value c = let d = c .before .before in plus! (times (got w64 (d .reduction .ok) (d .reduction .ensures)) (ho d .1) (lit< tt)) (rest d .1) (lit< tt)
+add-value c = plus! (heavy (s c) .1) (rest c .1) (lit< tt)
 
 returns : tie.Need-returns
-unfolding reduction ones
+unfolding overloadSum
 returns c =
-    let d = c .before .before in
-    let a = s d .args in
-    let b = d .before .beside .ensures in
-    let r : Kept w64 20 (pos 20) = (_, got w64 (d .reduction .ok) (d .reduction .ensures)) in
-    let v = plus (times (r .1) (ho d .1) (lit< tt)) (rest d .1) (lit< tt) in
+    let b = c .before .before .before .before .beside .ensures in
     record {
       lane = refl;
       small = b .small;
-      apart = b .apart;
-      value = v .is ∙ ap (λ (x : ℤ). pos 20 *ℤ a .ho +ℤ x) (b .value);
-      unbeaten = λ t h e. subst (NoBetter (a .q) (pos 20 *ℤ a .ho +ℤ setSum reduction (a .n) (valueAt (a .hn)) t)) (sym (v .is)) (no-better-add (a .q) _ _ _ _ (no-better-refl (a .q) (pos 20 *ℤ a .ho)) (b .unbeaten t h e (count-le (a .n) (bit t))));
-      near = told v .1;
+      bits = b .bits;
+      factors = b .factors;
+      value = plus (heavy (s c) .1) (rest c .1) (lit< tt) .is ∙ ap (λ (z : ℤ). pos 20 *ℤ s c .args .ho +ℤ z) (b .sum);
     }
 
 pub overload-at-spec : {M : Type 1} → statement M
-overload-at-spec = tie.close (tie.spec (λ c κs. search needs) (λ c κs. search needs) mul-value add-value returns)
+overload-at-spec = tie.close (tie.spec (λ c κs. search needs) mul-value add-value returns)

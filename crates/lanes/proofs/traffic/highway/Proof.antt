@@ -29,14 +29,14 @@ module _ (c : tie.After-values2) where
 
 found-requires : tie.Need-found-requires
 found-requires c κs =
-    let st = s (c .before .before) in
+    let st = s (c .before .before .before) in
     let r = c .before .best-normal .ensures (λ i. pos 0) in
     (st .pre .0, st .pre .1, st .pre .2, hn-wide st, hn-wide st, lt-of-lt-of-le (r .small) (pow-mono {i = st .args .across .lanes} {j = 5} (st .pre .0 .few)), r .near)
 
 found-requires-2 : tie.Need-found-requires-2
 found-requires-2 c κs =
     let best = c .before in
-    let st = s (best .before .before) in
+    let st = s (best .before .before .before) in
     let r = best .best-overload .ensures in
     (st .pre .0, st .pre .1, st .pre .2, hn-wide st, search (hn-wide st, st .pre .4), lt-of-lt-of-le (r .small) (pow-mono {i = st .args .across .lanes} {j = 5} (st .pre .0 .few)), r .near)
 
@@ -44,7 +44,7 @@ returns : tie.Need-returns
 returns c =
     let over = c .before .before in
     let set = over .before in
-    let all = set .before in
+    let all = set .before .before in
     let st = s all in
     let a = st .args in
     let hn = all .before .values in
@@ -68,4 +68,4 @@ returns c =
 pub highway-spec : {M : Type 1} → statement M
 highway-spec =
     tie.close
-    (tie.spec (λ c κs. (c .pre .0, hn-wide c)) (λ c κs. (c .before .pre .0, c .before .pre .4)) (λ c κs. (s c .pre .0 .few, light c)) (λ c κs. (s (c .before) .pre .0 .some, s (c .before) .pre .0 .few, light (c .before), heavy (c .before) .near)) found-requires found-requires-2 returns)
+    (tie.spec (λ c κs. (c .pre .0, hn-wide c)) (λ c κs. (c .before .pre .0, c .before .pre .4)) (λ c κs. s c .pre .0 .few) (λ c κs. (s (c .before) .pre .0 .few, c .ranks .ensures, light (c .before))) (λ c κs. let all = c .before .before in (s all .pre .0 .some, s all .pre .0 .few, c .before .ranks .ensures, light all, heavy all .near)) found-requires found-requires-2 returns)

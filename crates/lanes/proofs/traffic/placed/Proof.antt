@@ -4,12 +4,12 @@ use native.Mathlib.Omega.{arith}
 use Rattle.model.specs.Answered.{emptyLane}
 use Rattle.lanes.specs.Entries.{chosenIn}
 use Rattle.lanes.specs.Loadings.{laneOf}
-use Rattle.lanes.proofs.Filled.{FilledTo, filled-none, filled-more}
+use Rattle.sets.proofs.Filled.{FilledTo, filled-none, filled-more}
 use Rattle.lanes.proofs.traffic.placed.Statement.{statement}
 use Rattle.lanes.proofs.traffic.placed.Tie as tie
 
 abbrev Inv-loop : tie.InvT-loop
-Inv-loop q best hn ho across lanes₀ i₀ i-end lanes i = (i ≤ across .lanes) × FilledTo (λ k x. x ≡ laneOf (best .set) (best .lane) k (chosenIn q across hn k) (chosenIn q across ho k)) 5 emptyLane i lanes
+Inv-loop q best hn ho across lanes₀ i₀ i-end lanes i = (i ≤ across .lanes) × FilledTo (λ k x. x ≡ laneOf best k (chosenIn q across hn k) (chosenIn q across ho k)) 5 emptyLane i lanes
 
 abbrev μ-loop : tie.MeasureT-loop
 μ-loop q best hn ho across lanes₀ i₀ i-end lanes i = across .lanes - i

@@ -21,10 +21,10 @@ module _ (s : tie.Start) where
   abbrev sum : Kept w64 sumMost (s .args .sum)
   sum = (_, arg (s .fits .sum) (s .pre .4))
 
-  abbrev scaled : Kept w64 2340000000000000000 (pos (s .args .dynamic) *ℤ s .args .sum)
+  abbrev scaled : Kept w64 (1300 * sumMost) (pos (s .args .dynamic) *ℤ s .args .sum)
   scaled = (_, times (dynamic .1) (sum .1) (lit< tt))
 
-  abbrev x : Kept w64 7020000000000000000 (pos 3 *ℤ (pos (s .args .dynamic) *ℤ s .args .sum))
+  abbrev x : Kept w64 (3 * (1300 * sumMost)) (pos 3 *ℤ (pos (s .args .dynamic) *ℤ s .args .sum))
   x = (_, times (lit w64 3 (lit< tt)) (scaled .1) (lit< tt))
 
 mul-x : tie.Need-mul-x
