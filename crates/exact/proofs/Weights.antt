@@ -6,7 +6,7 @@ use native.Mathlib.Decide.{decLe}
 use native.Mathlib.Omega.{arith}
 use lib.IntN.{ℤ, pos, _+ℤ_, _*ℤ_}
 use lib.Dec.{eqb}
-use borrow.Author.Tests.{eqb-true, eq-eqb, ne-eqb}
+use borrow.Author.Tests.{eq-eqb, ne-eqb}
 use Rattle.exact.specs.Bounds.{Within}
 use Rattle.exact.specs.Choice.{if_then_else_}
 use Rattle.exact.specs.Questions.{NoBetter, extreme}
@@ -16,7 +16,7 @@ use Rattle.exact.specs.declared.Question.the-variants.{Greatest, Least}
 use Rattle.exact.proofs.Bounds.{within-le, within-pos, within-add}
 use Rattle.exact.proofs.Bridge.{by-test}
 use Rattle.exact.proofs.Extremes.{no-better-refl, no-better-trans, no-better-add, no-better-scale, extreme-bounds, extreme-least}
-use Rattle.exact.proofs.Ranges.{sum-cong, sum-mono, sum-add, sum-one, count-cong}
+use Rattle.exact.proofs.Ranges.{sum-mono, sum-add, count-cong}
 use Rattle.exact.proofs.Ring.{_⊕_, _⊗_, lit, _≐_, _≼_, _⇒_, solve, linear}
 
 -- ---- counts
@@ -53,16 +53,6 @@ count-with (suc n) o f h e = elim (decLe n o) [
 -- what the chosen give together
 abbrev pub sumWhere : (n : ℕ) → (ℕ → Bool) → (ℕ → ℤ) → ℤ
 sumWhere n test v = sumTo n (λ i. if test i then v i else pos 0)
-
--- one more
-pub sum-with : (n o : ℕ) (f : ℕ → Bool) (v : ℕ → ℤ) → o < n → f o ≡ false → sumWhere n (λ i. if eqb i o then true else f i) v ≡ sumWhere n f v +ℤ v o
-sum-with n o f v h e =
-    sum-cong n _ _ (λ i l. by-test (eqb i o) (λ t. (if (if t then true else f i) then v i else pos 0) ≡ (if f i then v i else pos 0) +ℤ (if t then v i else pos 0))
-    (λ t. rw (ap f (eqb-true i o t) ∙ e) (solve 1 (λ x. x ≐ lit 0 ⊕ x) tt (v i)))
-    (λ t. solve 1 (λ x. x ≐ x ⊕ lit 0) tt (if f i then v i else pos 0)))
-    ∙ sum-add n (λ i. if f i then v i else pos 0) (λ i. if eqb i o then v i else pos 0)
-    ∙ ap (λ (z : ℤ). sumWhere n f v +ℤ z)
-    (sum-one n (λ i. if eqb i o then v i else pos 0) o h (λ i l d. ap (λ (t : Bool). if t then v i else pos 0) (ne-eqb i o d)) ∙ ap (λ (t : Bool). if t then v o else pos 0) (eq-eqb o o refl))
 
 -- how far from zero they are
 pub sum-near : (b n : ℕ) (test : ℕ → Bool) (v : ℕ → ℤ) → ((i : ℕ) → i < n → Within b (v i)) → Within (b * countTo n test) (sumWhere n test v)

@@ -1,9 +1,13 @@
--- The twelve figures of 01, by computation.
+-- The twelve figures of 01, and overload on few lanes, by computation.
 use mathlib.Core.Path.{_≡_, refl}
-use mathlib.Core.List.{map}
+use mathlib.Core.List.{List, [], _∷_, map}
+use Prim.Native.Nat.{ℕ}
+use lib.IntN.{ℤ, pos, negsuc}
+use lib.ListN.{getD}
 use lib.Count.{ones, onesIn}
 use Rattle.exact.specs.Choice.{minℤ, maxℤ}
 use Rattle.exact.specs.Rounding.{floorDiv, ceilDiv}
+use Rattle.exact.specs.declared.Question.the-variants.{Greatest, Least}
 use Rattle.words.specs.Words.{signed32, wordAt}
 use Rattle.words.specs.Fields.{misfit}
 use Rattle.model.specs.Format.{section}
@@ -12,11 +16,31 @@ use Rattle.model.specs.Dynamic.{dynamicFactor}
 use Rattle.model.specs.Decode.{decode}
 use Rattle.model.specs.Refusals.{fault1, fault2, fault3, fault4, fault5, fault6, fault7, fault8, fault9, fault11, jobTests, jobVerdict, verdict}
 use Rattle.model.specs.Line.{along, ordinate, pair, patchByte, pieceLoad, uniformPart, bestPair, lineEffect}
-use Rattle.model.specs.Lanes.{laneCount, reduction, transverseAt, bestOrdinate, lanes, unit, lowestIn, highestIn}
-use Rattle.model.specs.Traffic.{bestInLane, laneEffect, setSum, bestNormal, bestOverload, bestOn, bestSum, effectOf, trafficValue}
+use Rattle.model.specs.Lanes.{laneCount, reduction, additional, transverseAt, bestOrdinate, lanes, unit, lowestIn, highestIn}
+use Rattle.model.specs.Traffic.{bestInLane, laneEffect, setSum, bestNormal, assigned, overloadSum, besideSum, bestOverload, bestOn, bestSum, effectOf, trafficValue}
 use Rattle.model.specs.Figures.{figures, Figure}
+
+-- lane i's value of a list
+abbrev valueOf : List ℤ → ℕ → ℤ
+valueOf values i = getD values i (pos 0)
 
 -- every figure is as printed
 pub figures-hold : map (λ (f : Figure). f .given) figures ≡ map (λ (f : Figure). f .printed) figures
 unfolding signed32 wordAt misfit section chainFrom walk repeats returns namesTwice dynamicFactor decode fault1 fault2 fault3 fault4 fault5 fault6 fault7 fault8 fault9 fault11 jobTests jobVerdict verdict along ordinate pair patchByte pieceLoad uniformPart bestPair lineEffect laneCount lanes unit lowestIn highestIn reduction transverseAt bestOrdinate bestInLane laneEffect setSum bestNormal bestOverload bestOn bestSum effectOf trafficValue minℤ maxℤ floorDiv ceilDiv ones onesIn
 figures-hold = refl
+
+-- ---- overload, given each lane's bests
+-- HO in the first lane, the second at 20
+two-lanes : bestOverload Greatest 2 (valueOf (pos 3 ∷ pos 5 ∷ [])) (valueOf (pos 4 ∷ pos 6 ∷ [])) ≡ pos 180
+unfolding bestOverload besideSum assigned overloadSum additional maxℤ
+two-lanes = refl
+
+-- HO in the second lane; the third at 20, the first at 18
+three-lanes : bestOverload Greatest 3 (valueOf (pos 3 ∷ pos 5 ∷ pos 4 ∷ [])) (valueOf (pos 4 ∷ pos 9 ∷ pos 5 ∷ [])) ≡ pos 314
+unfolding bestOverload besideSum assigned overloadSum additional maxℤ
+three-lanes = refl
+
+-- the same of the least
+three-least : bestOverload Least 3 (valueOf (negsuc 2 ∷ negsuc 4 ∷ negsuc 3 ∷ [])) (valueOf (negsuc 3 ∷ negsuc 8 ∷ negsuc 4 ∷ [])) ≡ negsuc 313
+unfolding bestOverload besideSum assigned overloadSum additional minℤ
+three-least = refl

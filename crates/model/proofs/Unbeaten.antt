@@ -3,12 +3,10 @@ use mathlib.Core.Path.{_≡_, refl, sym, _∙_, ap, ap₂, subst}
 use mathlib.Core.Bool.{Bool, true, false, false≢true}
 use mathlib.Core.Option.{none}
 use mathlib.Core.List.{List}
-use Prim.Native.Nat.{ℕ, zero, _-_, _*_, _^_, _≤_, _<_}
+use Prim.Native.Nat.{ℕ, zero, _-_, _*_, _^_, _<_}
 use native.Mathlib.Nat.{mul-pos}
 use native.Mathlib.Omega.{arith}
 use lib.IntN.{ℤ, pos, _+ℤ_, _*ℤ_}
-use lib.Signed.{_≤ℤ_}
-use lib.Dec.{ltb}
 use borrow.Author.Tests.{ltb-false}
 use lib.Pow.{le-ones}
 use Rattle.exact.specs.Choice.{if_then_else_}
@@ -16,15 +14,15 @@ use Rattle.exact.specs.Questions.{NoBetter, extreme}
 use Rattle.exact.specs.Ranges.{sumTo}
 use Rattle.exact.specs.declared.Question.{Question}
 use Rattle.exact.proofs.Bridge.{by-test}
-use Rattle.exact.proofs.Exact.{pos-nonneg, _⊕_, _⊗_, lit, _≐_, solve}
-use Rattle.exact.proofs.Extremes.{no-better-of-eq, no-better-trans, no-better-add, no-better-mul, no-better-scale, extreme-bounds}
+use Rattle.exact.proofs.Exact.{_⊗_, lit, _≐_, solve}
+use Rattle.exact.proofs.Extremes.{no-better-of-eq, no-better-trans, no-better-scale, extreme-bounds}
 use Rattle.exact.proofs.Ranges.{sum-zero, sum-one, count-none, count-one}
 use Rattle.exact.proofs.Rounding.{rounded-cross}
 use Rattle.model.specs.Job.{Profile, highway, rural, Job, Live, noTraffic, normal, overload}
 use Rattle.model.specs.Decode.{decode}
 use Rattle.model.specs.Refusals.{jobVerdict}
 use Rattle.model.specs.Line.{Kind, HN, HO}
-use Rattle.model.specs.Lanes.{lanes, unit, twentieths}
+use Rattle.model.specs.Lanes.{lanes, unit, reductionFor}
 use Rattle.model.specs.Traffic.{laneEffect, setSum, bestNormal, overloadSum, bestOverload, sumOn, bestOn, bestSum, effectOf, trafficValue}
 use Rattle.model.specs.Arrangements.{Element, Load, unloaded, element, Arrangement, elementEffect, carries, loadEffect, lanesUnder, effectUnder, sumOf, arranged, KindsFit, Lawful}
 use Rattle.model.proofs.Lanes.{unit-pos}
@@ -76,12 +74,12 @@ module _ (q : Question) (job : Job) (k : ℕ) (a : Arrangement) where
   none-under kind e i h = ap (λ (t : Bool). if t then laneEffect q job kind i else pos 0) (count-none n (λ i. carries kind (a .load i)) e i h)
 
   -- normal: the HN lanes are one of the sets
-  normal-best : NoBetter q (bestOf q job normal a) (bestNormal q (twentieths job) n hn)
+  normal-best : NoBetter q (bestOf q job normal a) (bestNormal q (reductionFor (job .profile)) n hn)
   unfolding bestNormal
   normal-best =
       let under : ℕ → Bool = λ i. carries HN (a .load i) in
-      subst (λ (x : ℤ). NoBetter q x (extreme q (2 ^ n - 1) (setSum (twentieths job) n hn))) (sym (set-sum (twentieths job) n under hn))
-      (extreme-bounds q (2 ^ n - 1) (setSum (twentieths job) n hn) (setNumber n under) (le-ones n (set-below n under)))
+      subst (λ (x : ℤ). NoBetter q x (extreme q (2 ^ n - 1) (setSum (reductionFor (job .profile)) n hn))) (sym (set-sum (reductionFor (job .profile)) n under hn))
+      (extreme-bounds q (2 ^ n - 1) (setSum (reductionFor (job .profile)) n hn) (setNumber n under) (le-ones n (set-below n under)))
 
   -- overload: the factors are an assignment to lanes other than the HO lane
   overload-best : lanesUnder job HO a ≡ 1 → Lawful job overload k a → NoBetter q (bestOf q job overload a) (bestOverload q n hn ho)

@@ -6,10 +6,10 @@ use mathlib.Core.List.{List}
 use Prim.Native.Nat.{ℕ, suc, _+_, _-_, _*_, _^_, _≤_, _<_}
 use native.Mathlib.Decide.{decLe}
 use native.Mathlib.Omega.{arith}
-use lib.IntN.{ℤ, pos, _+ℤ_, _*ℤ_}
+use lib.IntN.{ℤ, pos, _*ℤ_}
 use lib.Dec.{ltb, eqb}
 use lib.Pow.{le-ones, lt-of-le-ones}
-use borrow.Author.Tests.{ltb-false, le-ltb, eq-eqb, ne-eqb}
+use borrow.Author.Tests.{le-ltb, eq-eqb, ne-eqb}
 use Rattle.exact.specs.Bounds.{Within}
 use Rattle.exact.specs.Choice.{if_then_else_}
 use Rattle.exact.specs.Questions.{NoBetter, beats, extreme, extremeOver}
@@ -19,8 +19,7 @@ use Rattle.exact.proofs.Bounds.{within-le}
 use Rattle.exact.proofs.Bridge.{by-test}
 use Rattle.exact.proofs.Extremes.{no-better-refl, no-better-trans, no-better-antisym, beats-yes, beats-no, extreme-bounds, extreme-least}
 use Rattle.exact.proofs.Ranges.{sum-cong, sum-one, count-cong}
-use Rattle.exact.proofs.Ring.{_⊗_, lit, _≐_, solve}
-use Rattle.exact.proofs.Weights.{count-false, count-le, count-with, sumWhere, sum-near}
+use Rattle.exact.proofs.Weights.{count-false, count-le, count-with, sum-near}
 use Rattle.model.specs.Job.{highway, normal, overload}
 use Rattle.model.specs.Lanes.{bit, reduction, additional}
 use Rattle.model.specs.Traffic.{setSum, bestNormal, overloadSum, choice, besideSum, bestOverload, bestOn}

@@ -1,5 +1,5 @@
 -- Overload beside HO in one lane: the factors by rank are an assignment, and none beats them.
-use mathlib.Core.Path.{_≡_, refl, sym, _∙_, ap, ap₂, subst}
+use mathlib.Core.Path.{_≡_, refl, sym, _∙_, ap, subst}
 use mathlib.Core.Bool.{Bool, true, false, not, _&&_}
 use Prim.Native.Nat.{ℕ, zero, suc, _+_, _-_, _*_, _≤_, _<_}
 use native.Mathlib.Nat.{mul-le-mul-right}
@@ -17,14 +17,13 @@ use Rattle.exact.proofs.Bounds.{within-le, within-pos, within-add, within-mul}
 use Rattle.exact.proofs.Bridge.{by-test}
 use Rattle.exact.proofs.Choices.{over-least}
 use Rattle.exact.proofs.Counting.{and-true, count-all, count-but, count-fewer}
-use Rattle.exact.proofs.Extremes.{no-better-refl, no-better-trans, no-better-antisym, no-better-add, no-better-scale, beats-yes, beats-no}
+use Rattle.exact.proofs.Extremes.{no-better-refl, no-better-trans, no-better-antisym, no-better-add, no-better-scale, beats-no}
 use Rattle.exact.proofs.Levels.{factors-unbeaten, total, total-levels, total-near}
 use Rattle.exact.proofs.Ranges.{sum-cong, sum-mono, sum-zero, count-cong}
 use Rattle.exact.proofs.Ring.{_⊕_, _⊗_, lit, _≐_, solve}
 use Rattle.model.specs.Lanes.{additional}
 use Rattle.model.specs.Traffic.{additionalLanes, assigned, overloadSum, choice, besideSum}
 use Rattle.model.proofs.Assignments.{additional-range, additional-falls, assigned-intro, assigned-level, assigned-top, assigned-number}
-use Rattle.model.proofs.Signs.{alone-sum}
 use Rattle.magnitudes.specs.Magnitudes.{hnLaneMost, hoLaneMost, sumMost}
 use Rattle.sets.specs.Sets.{precedes, rank, factorBy}
 use Rattle.sets.proofs.Places.{placeIn, place, place-order, rank-beside, places-count, precedes-true, beats-strict}

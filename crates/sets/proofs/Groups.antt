@@ -1,16 +1,15 @@
 -- A group of lanes gathered lane by lane.
 use mathlib.Core.Path.{_≡_, refl, sym, _∙_, ap, ap₂, subst}
 use mathlib.Core.Bool.{Bool, true, false}
-use Prim.Native.Nat.{ℕ, zero, suc, _+_, _*_, _^_, _≤_, _<_}
+use Prim.Native.Nat.{ℕ, suc, _+_, _*_, _^_, _≤_, _<_}
 use native.Mathlib.Nat.{mul-comm, mul-le-mul-right, le-trans}
 use native.Mathlib.Numerals.{add-one}
 use native.Mathlib.Omega.{arith}
 use lib.IntN.{ℤ, pos, _+ℤ_}
 use Rattle.exact.specs.Bounds.{Within}
 use Rattle.exact.specs.Choice.{if_then_else_}
-use Rattle.exact.specs.Ranges.{sumTo, countTo}
+use Rattle.exact.specs.Ranges.{countTo}
 use Rattle.exact.proofs.Bounds.{within-le}
-use Rattle.exact.proofs.Ranges.{sum-step}
 use Rattle.exact.proofs.Ring.{_⊕_, lit, _≐_, solve}
 use Rattle.exact.proofs.Weights.{sumWhere, count-le, sum-near}
 use Rattle.model.specs.Lanes.{bit}

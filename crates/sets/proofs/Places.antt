@@ -109,11 +109,6 @@ module _ (q : Question) (v : ℕ → ℤ) where
         (λ e _. precedes-true i k e .noWorse)
         (λ e _. absurd (let l = place-no-less n i k e in omega arith)) refl
 
-    -- places are below the number of lanes
-    pub place-below : (n i : ℕ) → i < n → A i ≡ true → placeIn n i < countTo n A
-    place-below n i l a =
-        count-less n (ahead i) A (λ k m h. and-true (A k) _ h .0) i l (ap (λ (t : Bool). A i && t) (precedes-itself i) ∙ ap (λ (t : Bool). t && false) a) a
-
     -- lane n put in: at its own place, and those behind it move up
     own : (n : ℕ) → placeIn (suc n) n ≡ placeIn n n
     own n = rw (precedes-itself n) (none (A n))

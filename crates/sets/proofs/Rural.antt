@@ -5,7 +5,7 @@ use mathlib.Core.Bool.{Bool, false}
 use Prim.Native.Nat.{ℕ, zero, suc, _^_, _≤_, _<_}
 use native.Mathlib.Nat.{zero-div}
 use native.Mathlib.Omega.{arith}
-use lib.IntN.{ℤ, pos, _+ℤ_, _*ℤ_}
+use lib.IntN.{ℤ, pos, _*ℤ_}
 use lib.Dec.{ltb, eqb, lit<}
 use lib.ListN.{replicate}
 use lib.Pow.{pow-pos}
@@ -13,7 +13,6 @@ use borrow.Author.Tests.{ne-eqb}
 use Rattle.exact.specs.Bounds.{Within}
 use Rattle.exact.specs.Choice.{if_then_else_}
 use Rattle.exact.specs.Questions.{NoBetter, extreme}
-use Rattle.exact.specs.Ranges.{sumTo}
 use Rattle.exact.specs.declared.Question.{Question}
 use Rattle.exact.proofs.Bounds.{within-pos}
 use Rattle.exact.proofs.Extremes.{no-better-refl, no-better-of-eq, no-better-antisym, extreme-bounds, extreme-least}

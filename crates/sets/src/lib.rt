@@ -166,11 +166,12 @@ fn normal_at(ranks: [usize; 5], hn: [i64; 5], n: usize, m: usize) -> Loading
 {
     let group = first_lanes(ranks, hn, n, m);
     let value = reduction(group.set) * group.sum;
+    let factors = [0u32; 5];
     Loading {
         value,
         lane: 5,
         set: group.set,
-        factors: [0; 5],
+        factors,
     }
 }
 

@@ -1,12 +1,10 @@
 use native.Mathlib.Omega.{arith}
 use native.Mathlib.Nat.{lt-of-lt-of-le}
-use mathlib.Core.Path.{_≡_, refl, sym, _∙_, ap, ap₂, subst}
-use Prim.Native.Nat.{ℕ, _+_, _-_, _*_, _^_, _≤_, _<_}
+use mathlib.Core.Path.{_≡_, refl, subst}
+use Prim.Native.Nat.{ℕ, _-_, _≤_, _<_}
 use lib.Dec.{ltb, lit<, lit≤}
-use lib.IntN.{ℤ, pos}
 use lib.Pow.{pow-mono}
 use mir.Syntax.{w64}
-use borrow.Author.Needs.{needs}
 use Rattle.exact.specs.Bounds.{Within}
 use Rattle.exact.proofs.Held.{known, told}
 use Rattle.exact.proofs.Bounds.{within-le}

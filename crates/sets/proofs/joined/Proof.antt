@@ -1,11 +1,10 @@
-use mathlib.Core.Path.{refl, sym, _∙_, ap, ap₂}
+use mathlib.Core.Path.{ap₂}
 use Prim.Native.Nat.{ℕ}
 use lib.Dec.{lit<}
 use lib.IntN.{ℤ}
 use mir.Syntax.{w64}
 use borrow.Author.Needs.{needs}
 use Rattle.exact.proofs.Held.{arg, known, plus, plus! }
-use Rattle.sets.specs.declared.Group.{Group}
 use Rattle.sets.proofs.joined.Statement.{statement}
 use Rattle.sets.proofs.joined.Tie as tie
 
