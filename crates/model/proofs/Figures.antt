@@ -6,6 +6,7 @@ use lib.IntN.{ℤ, pos, negsuc}
 use lib.ListN.{getD}
 use lib.Count.{ones, onesIn}
 use Rattle.exact.specs.Choice.{minℤ, maxℤ}
+use Rattle.exact.specs.Ranges.{listOf}
 use Rattle.exact.specs.Rounding.{floorDiv, ceilDiv}
 use Rattle.exact.specs.declared.Question.the-variants.{Greatest, Least}
 use Rattle.words.specs.Words.{signed32, wordAt}
@@ -30,6 +31,11 @@ unfolding signed32 wordAt misfit section chainFrom walk repeats returns namesTwi
 figures-hold = refl
 
 -- ---- overload, given each lane's bests
+-- the factors of four additional lanes
+additional-lanes : listOf 4 additional ≡ 20 ∷ 18 ∷ 16 ∷ 14 ∷ []
+unfolding additional
+additional-lanes = refl
+
 -- HO in the first lane, the second at 20
 two-lanes : bestOverload Greatest 2 (valueOf (pos 3 ∷ pos 5 ∷ [])) (valueOf (pos 4 ∷ pos 6 ∷ [])) ≡ pos 180
 unfolding bestOverload besideSum assigned overloadSum additional maxℤ
