@@ -152,6 +152,8 @@ done
 
 step 'compiling tests/host_edges.c' compile tests/host_edges.c target/c/host_edges
 step 'tests/host_edges.c' target/c/host_edges examples/job-a.bin
+step 'compiling tests/lane_edges.c' compile tests/lane_edges.c target/c/lane_edges
+step 'tests/lane_edges.c' target/c/lane_edges
 step 'compiling tests/train_edges.c' compile tests/train_edges.c target/c/train_edges
 step 'tests/train_edges.c' target/c/train_edges
 step 'compiling tests/stored_calls.c' compile tests/stored_calls.c target/c/stored_calls
@@ -161,7 +163,7 @@ away=$(mktemp -d) || exit 2
 trap 'rm -rf "$away"' EXIT
 step 'an installation' install_in "$away" first
 step 'moving the installation' mv "$away/first" "$away/moved"
-step 'the release that HOST.md names' env PKG_CONFIG_PATH="$away/moved/lib/pkgconfig" pkg-config --atleast-version=1.3 hnho
+step 'the release that HOST.md names' env PKG_CONFIG_PATH="$away/moved/lib/pkgconfig" pkg-config --atleast-version=1.4 hnho
 step 'a copy of the examples' cp examples/host.c examples/truck.c examples/arch.c "$away"
 for compiler in 'gcc -std=c99' 'g++ -x c++ -std=c++98' 'g++ -x c++ -std=c++20'; do
   for example in host truck; do

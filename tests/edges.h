@@ -50,7 +50,7 @@ static struct buffer lend(size_t n, int fill) {
   return b;
 }
 
-static struct buffer lend_null(void) {
+static inline struct buffer lend_null(void) {
   struct buffer b = {NULL, NULL, 0};
   return b;
 }

@@ -57,37 +57,38 @@ static void expect_pair(struct hnho_position p, int64_t sum, const char *what) {
   expect(p.side == HNHO_SIDE_LEFT || p.side == HNHO_SIDE_RIGHT, what);
 }
 
-static int is_lane(struct hnho_lane lane, int entry, int64_t centre) {
-  return lane.entry == entry && lane.centre == centre && lane.factor == 0;
+static int is_lane(struct hnho_lane lane, int entry, int64_t centre, int64_t factor) {
+  return lane.entry == entry && lane.centre == centre && lane.factor == factor;
 }
 
 static void expect_unloaded_from(const struct hnho_placement *p, int i, const char *what) {
   for (; i < HNHO_LANES; i++)
-    expect(is_lane(p->lane[i], HNHO_UNLOADED, 0), what);
+    expect(is_lane(p->lane[i], HNHO_UNLOADED, 0, 0), what);
 }
 
 /* The placement of a greatest value of Job A. Its transverse line falls from left to right, so a lane's best centre is its leftmost:
  * 150 cm and 360 + 150 cm, in halves, with ordinates 712.5 and 262.5. Both lanes at 18 twentieths beat lane 1 alone, and HO is worth
- * most on lane 1. */
-static void expect_greatest_placement(const struct hnho_placement *p, int first_entry, const char *what) {
+ * most on lane 1, beside which lane 2 is the one additional lane, at 20; in normal no lane has a factor. */
+static void expect_greatest_placement(const struct hnho_placement *p, int first_entry, int64_t factor, const char *what) {
   expect(p->set == 3, what);
-  expect(is_lane(p->lane[0], first_entry, 300), what);
-  expect(is_lane(p->lane[1], HNHO_HN_RAISING, 1020), what);
+  expect(is_lane(p->lane[0], first_entry, 300, 0), what);
+  expect(is_lane(p->lane[1], HNHO_HN_RAISING, 1020, factor), what);
   expect_unloaded_from(p, 2, what);
 }
 
 /* The placement of a least value of Job A, 0: any lanes with lowering elements, whose pair is off the line, at lawful centres, from 300
- * to 420 halves and from 1020 to 1140; `ho` HO elements. */
+ * to 420 halves and from 1020 to 1140; `ho` HO elements, beside which an HN element has its factor. */
 static void expect_least_placement(const struct hnho_placement *p, int ho, const char *what) {
+  const int overload = ho;
   int64_t set = 0;
   int i;
   for (i = 0; i < 2; i++) {
     struct hnho_lane lane = p->lane[i];
-    if (is_lane(lane, HNHO_UNLOADED, 0))
+    if (is_lane(lane, HNHO_UNLOADED, 0, 0))
       continue;
     expect(lane.entry == HNHO_HN_LOWERING || lane.entry == HNHO_HO_LOWERING, what);
     expect(lane.centre >= 300 + 720 * i && lane.centre <= 420 + 720 * i, what);
-    expect(lane.factor == 0, what);
+    expect(lane.factor == (overload && lane.entry == HNHO_HN_LOWERING ? 20 : 0), what);
     ho -= lane.entry == HNHO_HO_LOWERING;
     set += 1 << i;
   }
@@ -121,9 +122,9 @@ static void expect_job_a(struct buffer patch, struct buffer account) {
   expect(a.overload_least == 0, "overload least");
   expect_pair(a.raising, 750, "the raising pair");
   expect_pair(a.lowering, 0, "the lowering pair");
-  expect_greatest_placement(&a.normal_greatest_placement, HNHO_HN_RAISING, "normal greatest's placement");
+  expect_greatest_placement(&a.normal_greatest_placement, HNHO_HN_RAISING, 0, "normal greatest's placement");
   expect_least_placement(&a.normal_least_placement, 0, "normal least's placement");
-  expect_greatest_placement(&a.overload_greatest_placement, HNHO_HO_RAISING, "overload greatest's placement");
+  expect_greatest_placement(&a.overload_greatest_placement, HNHO_HO_RAISING, 20, "overload greatest's placement");
   expect_least_placement(&a.overload_least_placement, 1, "overload least's placement");
   expect_state(&a.service, 1, INT64_C(299451781250), INT64_C(80000000000), "service");
   expect_state(&a.ultimate, 2, INT64_C(491971875000), INT64_C(96000000000), "ultimate");

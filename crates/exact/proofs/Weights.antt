@@ -79,7 +79,7 @@ no-better-drop Greatest x y z = linear 3 (λ x y z. x ⊕ z ≼ y ⊕ z ⇒ x �
 no-better-drop Least x y z = linear 3 (λ x y z. y ⊕ z ≼ x ⊕ z ⇒ y ≼ x) x y z (omega arith)
 
 -- more of what is no worse than 0 is no worse
-no-better-more : (q : Question) (a b : ℕ) (c : ℤ) → NoBetter q (pos 0) c → a ≤ b → NoBetter q (pos a *ℤ c) (pos b *ℤ c)
+pub no-better-more : (q : Question) (a b : ℕ) (c : ℤ) → NoBetter q (pos 0) c → a ≤ b → NoBetter q (pos a *ℤ c) (pos b *ℤ c)
 no-better-more q a b c h l =
     let e : a + (b - a) ≡ b = omega arith in
     subst (λ (m : ℕ). NoBetter q (pos a *ℤ c) (pos m *ℤ c)) e

@@ -20,7 +20,7 @@ use Rattle.exact.proofs.Ranges.{sum-cong, count-none}
 use Rattle.model.specs.Job.{Profile, highway, rural, Job, Live, noTraffic, normal, overload}
 use Rattle.model.specs.Lanes.{bit, reductionFor, lanes}
 use Rattle.model.specs.Line.{Kind, HN, HO}
-use Rattle.model.specs.Traffic.{setSum, bestNormal, assigned, choice, besideSum, bestOverload, bestOn, laneEffect}
+use Rattle.model.specs.Traffic.{setSum, bestNormal, assigned, factorChoice, besideSum, bestOverload, bestOn, laneEffect}
 use Rattle.model.proofs.Assignments.{overload-cong}
 use Rattle.model.proofs.LiveSums.{sum-on-cong}
 use Rattle.magnitudes.specs.Magnitudes.{transverseMost}
@@ -64,7 +64,7 @@ module _ (q : Question) (n : ℕ) (hn hn′ ho ho′ : ℕ → ℤ) (some : 0 < 
   best-cong p normal = extreme-cong q (2 ^ n - 1) _ _ (λ s l. set-sum-cong (reductionFor p) n s hn hn′ a)
   best-cong highway overload =
       extreme-cong q (n - 1) _ _ (λ o l. over-cong q (n - 1) n _ _ (λ c.
-      let f : ℕ → ℕ = λ i. choice (c i) in
+      let f : ℕ → ℕ = λ i. factorChoice (c i) in
       ap₂ (λ (x y : ℤ). if eqb (f o) 0 && assigned n f then x else pos 20 *ℤ y) (overload-cong n hn hn′ f f (b o (omega arith)) (λ i h. ap (λ (x : ℤ). pos (f i) *ℤ x) (a i h))) (b o (omega arith))))
   best-cong rural overload = refl
 
@@ -74,8 +74,8 @@ module _ (q : Question) (n : ℕ) (hn hn′ ho ho′ : ℕ → ℤ) (some : 0 < 
     kinds = l .kinds;
     small = l .small;
     apart = l .apart;
-    additional = l .additional;
     factors = l .factors;
+    past = l .past;
     value =
         l .value
         ∙ sum-on-cong p n live (λ i h. ap (λ (x : ℤ). if bit (r .set) i then x else pos 0) (a i h)) (λ i h. ap (λ (x : ℤ). if eqb i (r .lane) then x else pos 0) (b i h)) refl (λ i h. refl);
@@ -90,7 +90,7 @@ pub loading-of : (q : Question) (job : Job) (p : Profile) (live : Live) (across 
     LoadingOf q job live across dynamic best hn ho
 loading-of q job p live across dynamic best hn ho f g some on loads factor l is-f is-g under-hn under-ho = record {
   spanned = on;
-  factor = factor;
+  dynamicIs = factor;
   loading = subst (λ (p : Profile). LoadingRight q p live (lanes job) (laneEffect q job HN) (laneEffect q job HO) best) (sym loads)
       (subst (λ (n : ℕ). LoadingRight q p live n (laneEffect q job HN) (laneEffect q job HO) best) (on .lanes)
       (loading-cong q (across .lanes) f (laneEffect q job HN) g (laneEffect q job HO) some is-f is-g p live best l));

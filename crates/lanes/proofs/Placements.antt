@@ -155,7 +155,7 @@ module _ (q : Question) (job : Job) (live : Live) (across : Across) (dynamic : �
   under-ho i h = ap (λ (y : Lane). entryIs HO (y .entry)) (placed .each i h) ∙ ho-by (hn i) (ho i) (factor i) (eqb i at) (bit (best .set) i)
 
   shown : (i : ℕ) → i < lanes job → laneAt (x .placement) i .factor ≡ factor i
-  shown i h = ap (λ (y : Lane). y .factor) (placed .each i h) ∙ factor-by live (hn i) (ho i) (factor i) (eqb i at) (bit (best .set) i) (apart-at i) (f .loading .additional i h)
+  shown i h = ap (λ (y : Lane). y .factor) (placed .each i h) ∙ factor-by live (hn i) (ho i) (factor i) (eqb i at) (bit (best .set) i) (apart-at i) (f .loading .factors .lanes i h)
 
   entry-by : (i : ℕ) (c d : Chosen) (a b : Bool) → ElementRight q job HN i c → (a ≡ true → ElementRight q job HO i d) → EntryRight q job i (laneBy c d (factor i) a b .entry) (laneBy c d (factor i) a b .centre)
   entry-by i c d true b h k = k refl .at
@@ -174,13 +174,13 @@ module _ (q : Question) (job : Job) (live : Live) (across : Across) (dynamic : �
       record {
         value =
             value
-            ∙ ap (λ (d : ℕ). effectOf q d (best .value) (across .unit)) (f .factor)
+            ∙ ap (λ (d : ℕ). effectOf q d (best .value) (across .unit)) (f .dynamicIs)
             ∙ ap₂ (λ (z : ℤ) (d : ℕ). effectOf q (job .dynamic q) z d) best-is (f .spanned .unit);
         entries = λ i h.
             subst (λ (y : Lane). EntryRight q job i (y .entry) (y .centre)) (sym (placed .each i h))
             (entry-by i (hn i) (ho i) (eqb i at) (bit (best .set) i) (f .underHn i h) (λ e. f .underHo i h (eqb-true i at e)));
         kinds = subst (λ (m : ℕ). KindsFit (job .profile) live m (placedLanes job HO (x .placement))) (sym (counted .0)) (subst (KindsFit (job .profile) live (countTo (lanes job) (bit (best .set)))) (sym (counted .1)) (f .loading .kinds));
-        factors = placed-factors q job live (x .placement) (best .set) (λ i. eqb i at) factor under-hn under-ho shown (f .loading .additional) (f .loading .factors);
+        factors = placed-factors q job live (x .placement) (best .set) (λ i. eqb i at) factor under-hn under-ho shown (f .loading .factors);
         sum = placed-sum q job live (x .placement) (best .set) (λ i. eqb i at) factor under-hn under-ho shown ∙ sym (f .loading .value) ∙ best-is;
         set = set ∙ sym (loaded-set best (lanes job) hn ho (x .placement .lanes) (f .loading .small) (subst (λ (n : ℕ). n ≤ 5) (f .spanned .lanes) few) (f .loading .apart) (f .loading .lane) placed);
         onDeck = λ i h. ap (λ (y : Lane). y .entry) (placed .past i h);

@@ -11,9 +11,9 @@ use Rattle.model.specs.Job.{Job, Live}
 use Rattle.model.specs.Line.{Kind, HN, HO, lineEffect}
 use Rattle.model.specs.Lanes.{bit, lanes}
 use Rattle.model.specs.Traffic.{laneEffect, bestSum, trafficValue}
-use Rattle.model.specs.Arrangements.{KindsFit}
-use Rattle.model.specs.Answered.{emptyLane, laneAt, setOf}
-use Rattle.model.specs.Placements.{BestCentre, EntryRight, placedLanes, placedSum, FactorsRight}
+use Rattle.model.specs.Arrangements.{KindsFit, FactorsFit}
+use Rattle.model.specs.Answered.{emptyLane, laneAt, factorAt, setOf}
+use Rattle.model.specs.Placements.{BestCentre, EntryRight, entryIs, placedLanes, placedSum}
 use Rattle.model.specs.declared.Sense.the-variants.{Raising, Lowering}
 use Rattle.model.specs.declared.Entry.the-variants.{Unloaded, Hn, Ho}
 use Rattle.model.specs.declared.Lane.{Lane}
@@ -57,7 +57,7 @@ pub record ElementRight (q : Question) (job : Job) (kind : Kind) (i : ℕ) (c : 
 -- a live kind's best loading in a job, with the elements of its lanes
 pub record LoadingOf (q : Question) (job : Job) (live : Live) (across : Across) (dynamic : ℕ) (best : Loading) (hn ho : ℕ → Chosen) : Type 0 where
   pub spanned : Spanned job across
-  pub factor : dynamic ≡ job .dynamic q
+  pub dynamicIs : dynamic ≡ job .dynamic q
   pub loading : LoadingRight q (job .profile) live (lanes job) (laneEffect q job HN) (laneEffect q job HO) best
   pub underHn : (i : ℕ) → i < lanes job → ElementRight q job HN i (hn i)
   pub underHo : (i : ℕ) → i < lanes job → i ≡ best .lane → ElementRight q job HO i (ho i)
@@ -67,7 +67,7 @@ pub record TrafficPlaced (q : Question) (job : Job) (live : Live) (x : Extreme) 
   pub value : x .value ≡ trafficValue q job live
   pub entries : (i : ℕ) → i < lanes job → EntryRight q job i (laneAt (x .placement) i .entry) (laneAt (x .placement) i .centre)
   pub kinds : KindsFit (job .profile) live (placedLanes job HN (x .placement)) (placedLanes job HO (x .placement))
-  pub factors : FactorsRight job live (x .placement)
+  pub factors : FactorsFit live (lanes job) (λ i. entryIs HN (laneAt (x .placement) i .entry)) (factorAt (x .placement))
   pub sum : placedSum q job live (x .placement) ≡ bestSum q job live
   pub set : x .placement .set ≡ setOf (x .placement .lanes)
   pub onDeck : (i : ℕ) → lanes job ≤ i → laneAt (x .placement) i .entry ≡ Unloaded

@@ -66,7 +66,7 @@ setMost = 60 * hnLaneMost
 abbrev pub sumMost : ℕ
 sumMost = 20 * hoLaneMost + 68 * hnLaneMost
 
--- a traffic value in N·U: 3 times 1300 times a sum over 800000 times 10 is below 8.8e11
+-- a traffic value in N·U: 3 times 1300 times a sum over 800000 times 10 is below 9.62e11
 abbrev pub trafficMost : ℕ
 trafficMost = 1000000000000
 

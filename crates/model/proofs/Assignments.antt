@@ -19,22 +19,16 @@ use Rattle.exact.proofs.Extremes.{no-better-trans, extreme-bounds}
 use Rattle.exact.proofs.Ranges.{sum-cong, count-cong, count-none}
 use Rattle.exact.proofs.Weights.{count-part, count-false}
 use Rattle.model.specs.Lanes.{additional}
-use Rattle.model.specs.Traffic.{additionalLanes, assigned, overloadSum, choice, besideSum, bestOverload}
+use Rattle.model.proofs.Lanes.{twentieths-range, twentieths-falls}
+use Rattle.model.specs.Traffic.{additionalLanes, assigned, overloadSum, factorChoice, besideSum, bestOverload}
 
 -- ---- the factors
 pub additional-range : (m : ℕ) → (0 < additional m) × (additional m ≤ 20)
-unfolding additional
-additional-range m =
-    by-test (ltb m 3) (λ t. (0 < (if t then 20 - 2 * m else 14)) × ((if t then 20 - 2 * m else 14) ≤ 20))
-    (λ e. let h = ltb-true m 3 e in (omega arith, omega arith)) (λ e. (omega arith, omega arith))
+additional-range m = twentieths-range (suc m)
 
 -- they fall
 pub additional-falls : (j m : ℕ) → j ≤ m → additional m ≤ additional j
-unfolding additional
-additional-falls j m h =
-    by-test (ltb j 3) (λ t. (if ltb m 3 then 20 - 2 * m else 14) ≤ (if t then 20 - 2 * j else 14))
-    (λ e. let l = ltb-true j 3 e in by-test (ltb m 3) (λ t. (if t then 20 - 2 * m else 14) ≤ 20 - 2 * j) (λ f. omega arith) (λ f. omega arith))
-    (λ e. rw (le-ltb m 3 (let l = ltb-false j 3 e in omega arith)) (omega arith))
+additional-falls j m h = twentieths-falls (suc j) (suc m) (omega arith)
 
 -- ---- levels
 -- more than t: just one more, or more than that
@@ -140,7 +134,7 @@ module _ (n : ℕ) (hn ho : ℕ → ℤ) (o : ℕ) (below : o < n) where
 
   module _ (f : ℕ → ℕ) (none : f o ≡ 0) (a : assigned n f ≡ true) where
     -- each lane's factor is one that it can take
-    chosen : (i : ℕ) → (c : ℕ) × (c ≤ n - 1) × (i < n → choice c ≡ f i)
+    chosen : (i : ℕ) → (c : ℕ) × (c ≤ n - 1) × (i < n → factorChoice c ≡ f i)
     chosen i = elim (decLe n i) [
       | yes l ↦ (0, omega arith, λ h. absurd (omega arith))
       | no l ↦ elim (decLe (f i) 0) [
@@ -154,14 +148,14 @@ module _ (n : ℕ) (hn ho : ℕ → ℤ) (o : ℕ) (below : o < n) where
       ]
     ]
 
-    beside-unbeaten : (q : Question) → NoBetter q (overloadSum n hn (ho o) f) (extremeOver q (n - 1) n (λ c. besideSum n hn ho o (λ i. choice (c i))))
+    beside-unbeaten : (q : Question) → NoBetter q (overloadSum n hn (ho o) f) (extremeOver q (n - 1) n (λ c. besideSum n hn ho o (λ i. factorChoice (c i))))
     beside-unbeaten q =
-        subst (λ (z : ℤ). NoBetter q z (extremeOver q (n - 1) n (λ c. besideSum n hn ho o (λ i. choice (c i)))))
-        (beside-cong (λ i. choice (chosen i .0)) f (λ i h. chosen i .2 h) ∙ beside-assigned f none a)
-        (over-bounds q (n - 1) n (λ c. besideSum n hn ho o (λ i. choice (c i))) (λ c d e. beside-cong _ _ (λ i l. ap choice (e i l))) (λ i. chosen i .0) (λ i h. chosen i .1))
+        subst (λ (z : ℤ). NoBetter q z (extremeOver q (n - 1) n (λ c. besideSum n hn ho o (λ i. factorChoice (c i)))))
+        (beside-cong (λ i. factorChoice (chosen i .0)) f (λ i h. chosen i .2 h) ∙ beside-assigned f none a)
+        (over-bounds q (n - 1) n (λ c. besideSum n hn ho o (λ i. factorChoice (c i))) (λ c d e. beside-cong _ _ (λ i l. ap factorChoice (e i l))) (λ i. chosen i .0) (λ i h. chosen i .1))
 
 -- no HO lane and assignment to other lanes beat it
 pub overload-unbeaten : (q : Question) (n : ℕ) (hn ho : ℕ → ℤ) (o : ℕ) (f : ℕ → ℕ) → o < n → f o ≡ 0 → assigned n f ≡ true → NoBetter q (overloadSum n hn (ho o) f) (bestOverload q n hn ho)
 unfolding bestOverload
 overload-unbeaten q n hn ho o f below none a =
-    no-better-trans q _ _ _ (beside-unbeaten n hn ho o below f none a q) (extreme-bounds q (n - 1) (λ o. extremeOver q (n - 1) n (λ c. besideSum n hn ho o (λ i. choice (c i)))) o (omega arith))
+    no-better-trans q _ _ _ (beside-unbeaten n hn ho o below f none a q) (extreme-bounds q (n - 1) (λ o. extremeOver q (n - 1) n (λ c. besideSum n hn ho o (λ i. factorChoice (c i)))) o (omega arith))

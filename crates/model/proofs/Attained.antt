@@ -4,6 +4,7 @@ use mathlib.Core.Bool.{Bool, true, false, false≢true}
 use mathlib.Core.List.{List, _++_}
 use Prim.Native.Nat.{ℕ, zero, _*_, _<_}
 use native.Mathlib.Nat.{mul-pos, mul-le-mul-left}
+use native.Mathlib.Decide.{decLe}
 use native.Mathlib.Omega.{arith}
 use lib.IntN.{ℤ, pos, natAbs, _+ℤ_, _*ℤ_}
 use lib.Dec.{ltb}
@@ -18,14 +19,16 @@ use Rattle.exact.proofs.Rounding.{rounded-scale}
 use Rattle.model.specs.Job.{InfluenceLine, Job, Live, noTraffic, normal, overload, HasTraffic}
 use Rattle.model.specs.Line.{Kind, HN, HO, axle, bestPair, patchByte, patchBytes, uniformPart, lineEffect}
 use Rattle.model.specs.Lanes.{bit, lanes, unit, ordinateIn, CentreFits}
-use Rattle.model.specs.Traffic.{laneEffect, assigned, sumOn, isAdditional, bestSum, effectOf, trafficValue}
-use Rattle.model.specs.Arrangements.{Element, Load, unloaded, element, Arrangement, elementLine, elementEffect, carries, loadEffect, lanesUnder, effectUnder, sumOf, arranged, KindsFit, Lawful}
-use Rattle.model.specs.Answered.{laneAt, positionOf, reportedElement, reportedLoad, reported, reportedEffect, PositionRight, trafficIn, extremeOf, countedTraffic}
-use Rattle.model.specs.Placements.{BestCentre, EntryRight, entryIs, placedLanes, placedUnder, factorAt, placedSum, FactorsRight}
+use Rattle.model.specs.Traffic.{laneEffect, sumOn, isAdditional, bestSum, effectOf, trafficValue}
+use Rattle.model.specs.Arrangements.{Element, Load, unloaded, element, Arrangement, elementLine, elementEffect, carries, loadEffect, lanesUnder, effectUnder, sumOf, arranged, KindsFit, FactorsFit, Lawful}
+use Rattle.model.specs.Answered.{laneAt, factorAt, positionOf, reportedElement, reportedLoad, reported, reportedEffect, PositionRight, TrafficRight, trafficIn, extremeOf, countedTraffic}
+use Rattle.model.specs.Placements.{BestCentre, EntryRight, entryIs, placedLanes, placedUnder, placedSum}
 use Rattle.model.specs.declared.Sense.{Sense}
 use Rattle.model.specs.declared.Entry.{Entry}
 use Rattle.model.specs.declared.Entry.the-variants.{Unloaded, Hn, Ho}
+use Rattle.model.specs.declared.Lane.{Lane}
 use Rattle.model.specs.declared.Placement.{Placement}
+use Rattle.model.specs.declared.Extreme.{Extreme}
 use Rattle.model.specs.declared.Account.{Account}
 use Rattle.model.proofs.Lanes.{unit-pos}
 use Rattle.model.proofs.Signs.{no-traffic}
@@ -81,6 +84,14 @@ patch-byte line rest i h =
     let f : ℕ → ℕ = λ i. patchByte (line .piece i) in
     List·getD-append (patchBytes line) rest 0 i (rw (length-listOf (line .pieces) f) h) ∙ getD-listOf (line .pieces) f i 0 h
 
+-- what an entry stands for carries what the entry says
+carried : (kind : Kind) (job : Job) (patch : List ℕ) (a : Account) (e : Entry) (centre : ℕ) → carries kind (reportedLoad job patch a e centre) ≡ entryIs kind e
+carried kind job patch a Unloaded centre = refl
+carried HN job patch a (Hn sense) centre = refl
+carried HN job patch a (Ho sense) centre = refl
+carried HO job patch a (Hn sense) centre = refl
+carried HO job patch a (Ho sense) centre = refl
+
 module _ (q : Question) (job : Job) (patch rest : List ℕ) (a : Account) (bytes : patch ≡ patchBytes (job .line) ++ rest) (positions : (sense : Sense) → PositionRight (job .line) sense (positionOf a sense)) where
   abbrev n : ℕ
   n = unit job
@@ -112,24 +123,16 @@ module _ (q : Question) (job : Job) (patch rest : List ℕ) (a : Account) (bytes
     -- the reported arrangement carries what the entries say
     carries-entry : (kind : Kind) (i : ℕ) → carries kind (reported job patch a p .load i) ≡ entryIs kind (laneAt p i .entry)
     unfolding reported
-    carries-entry kind i = go kind (laneAt p i .entry) (laneAt p i .centre)
-      where
-        go : (kind : Kind) (e : Entry) (centre : ℕ) → carries kind (reportedLoad job patch a e centre) ≡ entryIs kind e
-        go kind Unloaded centre = refl
-        go HN (Hn sense) centre = refl
-        go HN (Ho sense) centre = refl
-        go HO (Hn sense) centre = refl
-        go HO (Ho sense) centre = refl
+    carries-entry kind i = carried kind job patch a (laneAt p i .entry) (laneAt p i .centre)
 
     -- it keeps the rules of a live kind that has as many lanes under each kind
-    pub reported-lawful : (live : Live) → KindsFit (job .profile) live (placedLanes job HN p) (placedLanes job HO p) → FactorsRight job live p → Lawful job live n (reported job patch a p)
+    pub reported-lawful : (live : Live) → KindsFit (job .profile) live (placedLanes job HN p) (placedLanes job HO p) → FactorsFit live (lanes job) (λ i. entryIs HN (laneAt p i .entry)) (factorAt p) → Lawful job live n (reported job patch a p)
     unfolding reported
     reported-lawful live kinds factors = record {
       fine = unit-pos job;
       kinds = subst (λ (m : ℕ). KindsFit (job .profile) live m (lanesUnder job HO (reported job patch a p))) (same HN) (subst (KindsFit (job .profile) live (placedLanes job HN p)) (same HO) kinds);
       centres = λ i e h is. go i (laneAt p i .entry) (laneAt p i .centre) (entries i h) e is;
-      additional = λ i h. factors .additional i h ∙ ap (isAdditional live) (sym (carries-entry HN i));
-      factors = factors .assigned;
+      factors = record { lanes = λ i h. factors .lanes i h ∙ ap (isAdditional live) (sym (carries-entry HN i)); counts = factors .counts };
     }
       where
         same : (kind : Kind) → placedLanes job kind p ≡ lanesUnder job kind (reported job patch a p)
@@ -172,11 +175,25 @@ module _ (q : Question) (job : Job) (live : Live) (p : Placement) (s : ℕ) (ove
       sum-on-cong (job .profile) (lanes job) live (λ i h. ap (λ (t : Bool). if t then laneEffect q job HN i else pos 0) (lanes-hn i h)) (λ i h. ap (λ (t : Bool). if t then laneEffect q job HO i else pos 0) (lanes-ho i h))
       (placed-lanes .0) factors
 
-  pub placed-factors : ((i : ℕ) → i < lanes job → ltb 0 (f i) ≡ isAdditional live (bit s i)) → assigned (lanes job) f ≡ true → FactorsRight job live p
-  placed-factors additional assigned = record {
-    additional = λ i h. ap (ltb 0) (factors i h) ∙ additional i h ∙ ap (isAdditional live) (sym (lanes-hn i h));
-    assigned = assigned-cong (lanes job) _ f factors ∙ assigned;
+  pub placed-factors : FactorsFit live (lanes job) (bit s) f → FactorsFit live (lanes job) (λ i. entryIs HN (laneAt p i .entry)) (factorAt p)
+  placed-factors fit = record {
+    lanes = λ i h. ap (ltb 0) (factors i h) ∙ fit .lanes i h ∙ ap (isAdditional live) (sym (lanes-hn i h));
+    counts = assigned-cong (lanes job) _ f factors ∙ fit .counts;
   }
+
+-- ---- what a lane shows
+-- an account's lane shows a factor exactly where it is additional: any other lane shows 0
+pub shows : {q : Question} {job : Job} {patch : List ℕ} {a : Account} {live : Live} {x : Extreme} → TrafficRight job patch a q live x → (i : ℕ) → ltb 0 (factorAt (x .placement) i) ≡ isAdditional live (entryIs HN (laneAt (x .placement) i .entry))
+unfolding reported
+shows {q} {job} {patch} {a} {live} {x} r i = elim (decLe (lanes job) i) [
+  | yes l ↦ let e = r .idle i (r .onDeck i l) in ap (λ (y : Lane). ltb 0 (y .factor)) e ∙ sym (never live) ∙ sym (ap (λ (y : Lane). isAdditional live (entryIs HN (y .entry))) e)
+  | no l ↦ r .lawful .factors .lanes i (omega arith) ∙ ap (isAdditional live) (carried HN job patch a (laneAt (x .placement) i .entry) (laneAt (x .placement) i .centre))
+]
+  where
+    never : (live : Live) → isAdditional live false ≡ false
+    never noTraffic = refl
+    never normal = refl
+    never overload = refl
 
 -- ---- a state
 -- the traffic counted for a row is its value, where the reported placement gives it

@@ -88,10 +88,10 @@ module _ (q : Question) (job : Job) (k : ℕ) (a : Arrangement) where
       let o = it .who in
       let l = it .below in
       let sum : sumTo n (bestUnder q job HO a) ≡ ho o = sum-one n (bestUnder q job HO a) o l (λ i h d. ap (λ (t : Bool). if t then ho i else pos 0) (it .others i h d)) ∙ ap (λ (t : Bool). if t then ho o else pos 0) (it .holds) in
-      let none = ltb-false 0 (a .factor o) (law .additional o l ∙ not-both (a .load o) (it .holds)) in
+      let none = ltb-false 0 (a .factor o) (law .factors .lanes o l ∙ not-both (a .load o) (it .holds)) in
       subst (λ (x : ℤ). NoBetter q x (bestOverload q n hn ho))
-      (overload-cong n hn (bestUnder q job HN a) (a .factor) (a .factor) (sym sum) (λ i h. sym (factored (a .factor i) (hn i) (carries HN (a .load i)) (law .additional i h))))
-      (overload-unbeaten q n hn ho o (a .factor) l (omega arith) (law .factors))
+      (overload-cong n hn (bestUnder q job HN a) (a .factor) (a .factor) (sym sum) (λ i h. sym (factored (a .factor i) (hn i) (carries HN (a .load i)) (law .factors .lanes i h))))
+      (overload-unbeaten q n hn ho o (a .factor) l (omega arith) (law .factors .counts))
 
   -- a rural bridge's overload arrangement gives nothing
   idle : lanesUnder job HN a ≡ 0 → lanesUnder job HO a ≡ 0 → bestOf q job overload a ≡ pos 0

@@ -1,13 +1,13 @@
 -- A placement by its lanes' entries: what each gives, and their sum.
 use mathlib.Core.{Path._≡_, Bool.Bool, Bool.true, Bool.false}
-use Prim.Native.Nat.{ℕ, _≤_, _<_}
-use lib.{IntN.ℤ, IntN.pos, IntN._*ℤ_, Dec.ltb}
+use Prim.Native.Nat.{ℕ, _≤_}
+use lib.IntN.{ℤ, pos, _*ℤ_}
 use Rattle.exact.specs.{Choice.if_then_else_, Ranges.countTo, declared.Question.Question}
 use Rattle.model.specs.Job.{Job, Live}
 use Rattle.model.specs.Line.{Kind, HN, HO, lineEffect}
 use Rattle.model.specs.Lanes.{lanes, unit, lowestIn, highestIn, ordinateIn}
-use Rattle.model.specs.Traffic.{laneEffect, sumOn, isAdditional, assigned}
-use Rattle.model.specs.Answered.{laneAt}
+use Rattle.model.specs.Traffic.{laneEffect, sumOn}
+use Rattle.model.specs.Answered.{laneAt, factorAt}
 use Rattle.model.specs.declared.{Sense.Sense, Entry.Entry, Entry.the-variants.Unloaded, Entry.the-variants.Hn, Entry.the-variants.Ho, Placement.Placement}
 
 -- an element in lane i, at a centre in units within the lane's limits, where its sense's line effect gives the lane's best
@@ -38,15 +38,6 @@ placedLanes job kind p = countTo (lanes job) (λ i. entryIs kind (laneAt p i .en
 abbrev pub placedUnder : Question → Job → Kind → Placement → (i : ℕ) → ℤ
 placedUnder q job kind p i = if entryIs kind (laneAt p i .entry) then laneEffect q job kind i else pos 0
 
--- lane i's factor
-abbrev pub factorAt : Placement → (i : ℕ) → ℕ
-factorAt p i = laneAt p i .factor
-
 -- a placement's X but for the dynamic factor
 abbrev pub placedSum : Question → Job → Live → Placement → ℤ
 placedSum q job live p = sumOn (job .profile) live (lanes job) (placedUnder q job HN p) (placedUnder q job HO p) (placedLanes job HN p) (factorAt p)
-
--- the additional lanes of a live kind, and no others, have a factor, and the factors are an assignment
-pub record FactorsRight (job : Job) (live : Live) (p : Placement) : Type 0 where
-  pub additional : (i : ℕ) → i < lanes job → ltb 0 (factorAt p i) ≡ isAdditional live (entryIs HN (laneAt p i .entry))
-  pub assigned : assigned (lanes job) (factorAt p) ≡ true

@@ -22,10 +22,10 @@ use Rattle.exact.proofs.Ranges.{sum-cong, sum-one, count-cong}
 use Rattle.exact.proofs.Weights.{count-false, count-le, count-with, sum-near}
 use Rattle.model.specs.Job.{highway, normal, overload}
 use Rattle.model.specs.Lanes.{bit, reduction, additional}
-use Rattle.model.specs.Traffic.{setSum, bestNormal, overloadSum, choice, besideSum, bestOverload, bestOn}
+use Rattle.model.specs.Traffic.{setSum, bestNormal, overloadSum, factorChoice, besideSum, bestOverload, bestOn}
 use Rattle.model.proofs.Assignments.{assigned-cong, assigned-none, factored, overload-cong, overload-unbeaten}
 use Rattle.magnitudes.specs.Magnitudes.{hnLaneMost, hoLaneMost, setMost, sumMost}
-use Rattle.sets.specs.Sets.{numberAt, ValuesFit, rank, Ranked, FirstAt, factorBy, OverloadAt, LoadingRight}
+use Rattle.sets.specs.Sets.{numberAt, ValuesFit, rank, Ranked, FirstAt, factorByRank, OverloadAt, LoadingRight}
 use Rattle.sets.specs.declared.Loading.{Loading}
 use Rattle.sets.proofs.Factors.{factor-ho, factor-assigned, choices-bound, factor-near}
 use Rattle.sets.proofs.FirstSets.{reducedSum, reduced-set, first-unbeaten}
@@ -68,7 +68,7 @@ firstSum n hn ranks m = reducedSum n (λ i. ltb (numberAt ranks i) m) hn
 
 -- the factors beside HO in lane o, and what they give with it
 abbrev pub held : Question → (hn : ℕ → ℤ) → (ranks : List ℕ) → (o i : ℕ) → ℕ
-held q hn ranks o = factorBy q (numberAt ranks) hn o
+held q hn ranks o = factorByRank q (numberAt ranks) hn o
 
 abbrev pub heldSum : Question → (n : ℕ) → (hn ho : ℕ → ℤ) → (ranks : List ℕ) → (o : ℕ) → ℤ
 heldSum q n hn ho ranks o = overloadSum n hn (ho o) (held q hn ranks o)
@@ -91,8 +91,8 @@ module _ (q : Question) (n : ℕ) (hn ho : ℕ → ℤ) (few : n ≤ 5) (fit : V
         kinds = count-cong n _ (λ i. false) (λ i h. ap (eqb i) (a .lane) ∙ ne-eqb i 5 (λ e. omega arith)) ∙ count-false n;
         small = a .small;
         apart = ap (bit (r .set)) (a .lane) ∙ bit-past n (r .set) 5 (a .small) few;
-        additional = λ i h. ap (ltb 0) (a .none i);
-        factors = assigned-none n _ (λ i h. a .none i);
+        factors = record { lanes = λ i h. ap (ltb 0) (a .none i); counts = assigned-none n _ (λ i h. a .none i) };
+        past = λ i h. a .none i;
         value = value;
         best = no-better-antisym q (r .value) best
             (subst (λ (z : ℤ). NoBetter q z best) (reduced-set n hn (r .set) (a .small) ∙ sym value) (extreme-bounds q (2 ^ n - 1) f (r .set) (le-ones n (a .small))))
@@ -108,11 +108,11 @@ module _ (q : Question) (n : ℕ) (hn ho : ℕ → ℤ) (few : n ≤ 5) (fit : V
       alike s t e = ap₂ (λ (k : ℕ) (z : ℤ). reduction k *ℤ z) (count-cong n s t e) (sum-cong n _ _ (λ i h. ap (λ (t : Bool). if t then hn i else pos 0) (e i h)))
 
   -- ---- overload
-  same-factors : (o : ℕ) → o < n → (i : ℕ) → i < n → held q hn ranks o i ≡ factorBy q (rank q n hn) hn o i
-  unfolding factorBy
+  same-factors : (o : ℕ) → o < n → (i : ℕ) → i < n → held q hn ranks o i ≡ factorByRank q (rank q n hn) hn o i
+  unfolding factorByRank
   same-factors o l i h = ap₂ (λ (x y : ℕ). if eqb i o then 0 else (if beats q (hn i) (pos 0) then additional (if ltb x y then y - 1 else y) else 0)) (ranked .each o l) (ranked .each i h)
 
-  same-sum : (o : ℕ) → o < n → heldSum q n hn ho ranks o ≡ overloadSum n hn (ho o) (factorBy q (rank q n hn) hn o)
+  same-sum : (o : ℕ) → o < n → heldSum q n hn ho ranks o ≡ overloadSum n hn (ho o) (factorByRank q (rank q n hn) hn o)
   same-sum o l = overload-cong n hn hn _ _ refl (λ i h. ap (λ (k : ℕ). pos k *ℤ hn i) (same-factors o l i h))
 
   pub overload-right : ((i : ℕ) → i < n → Within hoLaneMost (ho i)) → (r : Loading) → BestTo q (λ o. OverloadAt n (held q hn ranks o) hn (ho o) o) (heldSum q n hn ho ranks) n r → LoadingRight q highway overload n hn ho r
@@ -121,8 +121,8 @@ module _ (q : Question) (n : ℕ) (hn ho : ℕ → ℤ) (few : n ≤ 5) (fit : V
       let o = b .at in
       let l = b .below in
       let a = b .is in
-      let best = extreme q (n - 1) (λ o. extremeOver q (n - 1) n (λ c. besideSum n hn ho o (λ i. choice (c i)))) in
-      let shown : (i : ℕ) → i < n → numberAt (r .factors) i ≡ factorBy q (rank q n hn) hn o i = λ i h. a .factors i h ∙ same-factors o l i h in
+      let best = extreme q (n - 1) (λ o. extremeOver q (n - 1) n (λ c. besideSum n hn ho o (λ i. factorChoice (c i)))) in
+      let shown : (i : ℕ) → i < n → numberAt (r .factors) i ≡ factorByRank q (rank q n hn) hn o i = λ i h. a .factors i h ∙ same-factors o l i h in
       let none : numberAt (r .factors) o ≡ 0 = shown o l ∙ factor-ho q n hn (fit .some) o l in
       let lawful = assigned-cong n _ _ shown ∙ factor-assigned q n hn (fit .some) o l in
       let bits : (i : ℕ) → i < n → ltb 0 (numberAt (r .factors) i) ≡ bit (r .set) i = λ i h. ap (ltb 0) (a .factors i h) ∙ sym (a .bits i h) in
@@ -132,8 +132,8 @@ module _ (q : Question) (n : ℕ) (hn ho : ℕ → ℤ) (few : n ≤ 5) (fit : V
         kinds = count-cong n _ _ (λ i h. ap (eqb i) (a .lane)) ∙ count-at n o l;
         small = a .small;
         apart = ap (bit (r .set)) (a .lane) ∙ sym (bits o l) ∙ le-ltb 0 (numberAt (r .factors) o) (omega arith);
-        additional = bits;
-        factors = lawful;
+        factors = record { lanes = bits; counts = lawful };
+        past = a .past;
         value = value ∙ overload-cong n hn _ _ _ (sym (sum-at n o l (r .lane) (a .lane))) (λ i h. sym (factored _ (hn i) (bit (r .set) i) (bits i h)));
         best = no-better-antisym q (r .value) best (subst (λ (z : ℤ). NoBetter q z best) (sym value) (overload-unbeaten q n hn ho o (numberAt (r .factors)) l none lawful))
             (extreme-least q (n - 1) _ (r .value) (λ i h.

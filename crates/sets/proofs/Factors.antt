@@ -21,15 +21,15 @@ use Rattle.exact.proofs.Extremes.{no-better-refl, no-better-trans, no-better-an
 use Rattle.exact.proofs.Levels.{factors-unbeaten, total, total-levels, total-near}
 use Rattle.exact.proofs.Ranges.{sum-cong, sum-mono, sum-zero, count-cong}
 use Rattle.exact.proofs.Ring.{_⊕_, _⊗_, lit, _≐_, solve}
-use Rattle.model.specs.Lanes.{additional}
-use Rattle.model.specs.Traffic.{additionalLanes, assigned, overloadSum, choice, besideSum}
+use Rattle.model.specs.Lanes.{twentieths, additional}
+use Rattle.model.specs.Traffic.{additionalLanes, assigned, overloadSum, factorChoice, besideSum}
 use Rattle.model.proofs.Assignments.{additional-range, additional-falls, assigned-intro, assigned-level, assigned-top, assigned-number}
 use Rattle.magnitudes.specs.Magnitudes.{hnLaneMost, hoLaneMost, sumMost}
-use Rattle.sets.specs.Sets.{precedes, rank, factorBy}
+use Rattle.sets.specs.Sets.{precedes, rank, factorByRank}
 use Rattle.sets.proofs.Places.{placeIn, place, place-order, rank-beside, places-count, precedes-true, beats-strict}
 
 -- factors that stand as often as those of m additional lanes are an assignment
-by-counts : (n m : ℕ) (f : ℕ → ℕ) → ((g : ℕ → Bool) → g 0 ≡ false → countTo n (λ i. g (f i)) ≡ countTo m (λ j. g (additional j))) → assigned n f ≡ true
+pub by-counts : (n m : ℕ) (f : ℕ → ℕ) → ((g : ℕ → Bool) → g 0 ≡ false → countTo n (λ i. g (f i)) ≡ countTo m (λ j. g (additional j))) → assigned n f ≡ true
 by-counts n m f count =
     assigned-intro n f (λ x l. count (λ k. eqb k (suc x)) (ne-eqb 0 (suc x) (λ s. omega arith)) ∙ ap (λ (k : ℕ). countTo k (λ j. eqb (additional j) (suc x))) (sym number))
   where
@@ -37,15 +37,15 @@ by-counts n m f count =
     number = count (ltb 0) (le-ltb 0 0 (omega arith)) ∙ count-all _ (λ j. ltb 0 (additional j)) (λ j l. lt-ltb 0 _ (additional-range j .0))
 
 -- no factor by rank is above 20
-pub factor-top : (q : Question) (rank : ℕ → ℕ) (v : ℕ → ℤ) (o i : ℕ) → factorBy q rank v o i ≤ 20
-unfolding factorBy
-factor-top q rank v o i =
-    by-test (eqb i o) (λ t. (if t then 0 else (if beats q (v i) (pos 0) then additional (if ltb (rank o) (rank i) then rank i - 1 else rank i) else 0)) ≤ 20) (λ _. omega arith)
-    (λ _. by-test (beats q (v i) (pos 0)) (λ t. (if t then additional (if ltb (rank o) (rank i) then rank i - 1 else rank i) else 0) ≤ 20) (λ _. additional-range _ .1) (λ _. omega arith))
+pub factor-top : (q : Question) (ranks : ℕ → ℕ) (v : ℕ → ℤ) (o i : ℕ) → factorByRank q ranks v o i ≤ 20
+unfolding factorByRank
+factor-top q ranks v o i =
+    by-test (eqb i o) (λ t. (if t then 0 else (if beats q (v i) (pos 0) then additional (if ltb (ranks o) (ranks i) then ranks i - 1 else ranks i) else 0)) ≤ 20) (λ _. omega arith)
+    (λ _. by-test (beats q (v i) (pos 0)) (λ t. (if t then additional (if ltb (ranks o) (ranks i) then ranks i - 1 else ranks i) else 0) ≤ 20) (λ _. additional-range _ .1) (λ _. omega arith))
 
 -- what four additional lanes count at most
 additional-total : (m : ℕ) → m ≤ 4 → total m additional ≤ 68
-unfolding additional
+unfolding twentieths
 additional-total zero h = omega arith
 additional-total (suc zero) h = omega arith
 additional-total (suc (suc zero)) h = omega arith
@@ -59,7 +59,7 @@ times-zero = solve 1 (λ x. x ⊗ lit 0 ≐ lit 0) tt
 module _ (q : Question) (n : ℕ) (hn : ℕ → ℤ) (some : (i : ℕ) → i < n → NoBetter q (pos 0) (hn i)) (o : ℕ) (below : o < n) where
   -- the factors by rank
   abbrev f : ℕ → ℕ
-  f = factorBy q (rank q n hn) hn o
+  f = factorByRank q (rank q n hn) hn o
 
   -- every other lane's, also where it gives nothing
   abbrev w : ℕ → ℕ
@@ -70,7 +70,7 @@ module _ (q : Question) (n : ℕ) (hn : ℕ → ℤ) (some : (i : ℕ) → i < n
   loaded i = not (eqb i o) && beats q (hn i) (pos 0)
 
   f-is : (i : ℕ) → f i ≡ (if eqb i o then 0 else (if beats q (hn i) (pos 0) then additional (place q n hn o i) else 0))
-  unfolding factorBy
+  unfolding factorByRank
   f-is i = ap (λ (p : ℕ). if eqb i o then 0 else (if beats q (hn i) (pos 0) then additional p else 0)) (rank-beside q hn n o i below)
 
   -- the HO lane has none
@@ -181,11 +181,11 @@ module _ (q : Question) (n : ℕ) (hn : ℕ → ℤ) (some : (i : ℕ) → i < n
       (sum-mono q n _ _ (λ i l. no-better-scale q (f i) (pos 0) (hn i) (some i l)))))
 
   -- so they bound every choice
-  pub choices-bound : (ho : ℕ → ℤ) → NoBetter q (extremeOver q (n - 1) n (λ c. besideSum n hn ho o (λ i. choice (c i)))) (overloadSum n hn (ho o) f)
+  pub choices-bound : (ho : ℕ → ℤ) → NoBetter q (extremeOver q (n - 1) n (λ c. besideSum n hn ho o (λ i. factorChoice (c i)))) (overloadSum n hn (ho o) f)
   unfolding besideSum
   choices-bound ho =
       over-least q (n - 1) n _ _ (λ c.
-      let g : ℕ → ℕ = λ i. choice (c i) in
+      let g : ℕ → ℕ = λ i. factorChoice (c i) in
       by-test (eqb (g o) 0 && assigned n g) (λ t. NoBetter q (if t then overloadSum n hn (ho o) g else pos 20 *ℤ ho o) (overloadSum n hn (ho o) f))
       (λ t. let p = and-true (eqb (g o) 0) (assigned n g) t in assignment-unbeaten (ho o) g (eqb-true (g o) 0 (p .0)) (p .1)) (λ _. alone-unbeaten (ho o)))
 

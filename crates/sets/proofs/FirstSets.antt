@@ -10,11 +10,10 @@ use Rattle.exact.specs.Questions.{NoBetter}
 use Rattle.exact.specs.Ranges.{countTo}
 use Rattle.exact.specs.declared.Question.{Question}
 use Rattle.exact.proofs.Counting.{count-below, count-all}
-use Rattle.exact.proofs.Extremes.{no-better-mul}
+use Rattle.exact.proofs.Extremes.{no-better-scale}
 use Rattle.exact.proofs.Weights.{sumWhere, count-le, choice-unbeaten}
-use Rattle.model.specs.Lanes.{bit, reduction}
+use Rattle.model.specs.Lanes.{bit, twentieths, reduction}
 use Rattle.model.specs.Traffic.{setSum}
-use Rattle.model.proofs.Lanes.{reduction-nonneg}
 use Rattle.model.proofs.Sets.{ones-count}
 use Rattle.sets.specs.Sets.{rank}
 use Rattle.sets.proofs.Places.{places-count, place-order}
@@ -48,7 +47,7 @@ module _ (q : Question) (n : ℕ) (v : ℕ → ℤ) (some : (i : ℕ) → i < n 
       let e = first-count m (count-le n (bit set)) in
       subst (λ (z : ℤ). NoBetter q z (reducedSum n (among m) v)) (sym (reduced-set n v set small))
       (subst (λ (k : ℕ). NoBetter q (reduction m *ℤ sumWhere n (bit set) v) (reduction k *ℤ sumWhere n (among m) v)) (sym e)
-      (no-better-mul q (reduction m) _ _ (reduction-nonneg m)
+      (no-better-scale q (twentieths m) _ _
       (choice-unbeaten q n v (bit set) (among m) some
       (λ i k a b s _ t. place-order q v (λ k. true) n i k (let x = ltb-true _ m s in let y = ltb-false _ m t in omega arith))
       (omega arith))))

@@ -5,5 +5,6 @@ pub mod Reduced
 pub mod Places
 pub mod FirstSets
 pub mod Factors
+pub mod NeverMilder
 pub mod Best
 pub mod Rural

@@ -18,7 +18,7 @@ use Rattle.exact.proofs.Tests.{ltZ-true}
 use Rattle.exact.proofs.Extremes.{no-better-refl, no-better-trans, beats-yes, beats-no}
 use Rattle.exact.proofs.Ranges.{count-cong}
 use Rattle.exact.proofs.Counting.{one, and-cong, and-true, and-intro, count-less, count-without, skip, count-insert}
-use Rattle.exact.proofs.Weights.{count-part}
+use Rattle.exact.proofs.Weights.{count-part, count-le}
 use Rattle.sets.specs.Sets.{precedes, rank}
 
 pub beats-strict : (q : Question) (x y : ℤ) → beats q x y ≡ true → ¬ NoBetter q x y
@@ -109,6 +109,11 @@ module _ (q : Question) (v : ℕ → ℤ) where
         (λ e _. precedes-true i k e .noWorse)
         (λ e _. absurd (let l = place-no-less n i k e in omega arith)) refl
 
+    -- places are below the number of lanes
+    pub place-below : (n i : ℕ) → i < n → A i ≡ true → placeIn n i < countTo n A
+    place-below n i l a =
+        count-less n (ahead i) A (λ k m h. and-true (A k) _ h .0) i l (ap (λ (t : Bool). A i && t) (precedes-itself i) ∙ ap (λ (t : Bool). t && false) a) a
+
     -- lane n put in: at its own place, and those behind it move up
     own : (n : ℕ) → placeIn (suc n) n ≡ placeIn n n
     own n = rw (precedes-itself n) (none (A n))
@@ -159,3 +164,8 @@ rank-beside q v n o i h =
     by-test (precedes q v o i) (λ t. countTo n (λ k. not (eqb k o) && precedes q v k i) + one t ≡ countTo n (λ k. precedes q v k i) → (if ltb (rank q n v o) (rank q n v i) then rank q n v i - 1 else rank q n v i) ≡ place q n v o i)
     (λ t e. rw (lt-ltb _ _ (place-less q v (λ k. true) n o i h refl t)) (omega arith))
     (λ t e. rw (le-ltb _ _ (place-no-less q v (λ k. true) n o i t)) (omega arith)) e
+
+-- at most as many precede a lane as there are
+pub rank-few : (q : Question) (n : ℕ) (v : ℕ → ℤ) (i : ℕ) → rank q n v i ≤ n
+unfolding rank
+rank-few q n v i = count-le n (λ k. precedes q v k i)

@@ -63,8 +63,8 @@ one-right q hn ho x some is near =
       kinds = refl;
       small = lit< tt;
       apart = refl;
-      additional = one-none;
-      factors = assigned-none 1 _ (λ i h. getD-nothing 5 i 0);
+      factors = record { lanes = one-none; counts = assigned-none 1 _ (λ i h. getD-nothing 5 i 0) };
+      past = λ i h. getD-nothing 5 i 0;
       value = own ∙ one-sum hn ∙ solve 1 (λ x. lit 17 ⊗ x ≐ lit 17 ⊗ (lit 0 ⊕ x)) tt (hn 0);
       best = own ∙ no-better-antisym q (f 1) (extreme q 1 f) (extreme-bounds q 1 f 1 (omega arith)) (extreme-least q 1 f (f 1) (one-unbeaten q hn some));
       near = near;
@@ -80,8 +80,8 @@ idle-right q hn ho none =
       kinds = refl;
       small = lit< tt;
       apart = refl;
-      additional = one-none;
-      factors = assigned-none 1 _ (λ i h. getD-nothing 5 i 0);
+      factors = record { lanes = one-none; counts = assigned-none 1 _ (λ i h. getD-nothing 5 i 0) };
+      past = λ i h. getD-nothing 5 i 0;
       value = refl;
       best = ap (λ (z : ℤ). pos 17 *ℤ z) (sym none) ∙ sym (one-sum hn) ∙ no-better-antisym q (f 1) (extreme q 1 f) (extreme-bounds q 1 f 1 (omega arith)) (extreme-least q 1 f (f 1) (one-unbeaten q hn (no-better-of-eq q (sym none))));
       near = within-pos sumMost (omega arith);
@@ -96,8 +96,8 @@ none-right q n hn ho few =
       kinds = (count-cong n _ (λ i. false) (λ i h. zero-bit i) ∙ count-false n, count-cong n _ (λ i. false) no ∙ count-false n);
       small = pow-pos n;
       apart = refl;
-      additional = λ i h. ap (ltb 0) (getD-nothing 5 i 0) ∙ sym (zero-bit i);
-      factors = assigned-none n _ (λ i h. getD-nothing 5 i 0);
+      factors = record { lanes = λ i h. ap (ltb 0) (getD-nothing 5 i 0) ∙ sym (zero-bit i); counts = assigned-none n _ (λ i h. getD-nothing 5 i 0) };
+      past = λ i h. getD-nothing 5 i 0;
       value =
           ap (λ (z : ℤ). pos 20 *ℤ z) (sym (sum-zero n _ (λ i h. ap (λ (t : Bool). if t then ho i else pos 0) (no i h))))
           ∙ sym (alone-sum n _ _ _ (λ i h. getD-nothing 5 i 0));

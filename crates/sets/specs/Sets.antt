@@ -3,7 +3,7 @@ use mathlib.Core.Path.{_≡_}
 use mathlib.Core.Logic.{_⊎_}
 use mathlib.Core.Bool.{Bool, true, false, not}
 use mathlib.Core.List.{List}
-use Prim.Native.Nat.{ℕ, _-_, _*_, _^_, _<_}
+use Prim.Native.Nat.{ℕ, _-_, _*_, _^_, _≤_, _<_}
 use lib.IntN.{ℤ, pos, _*ℤ_}
 use lib.Dec.{ltb, eqb}
 use lib.ListN.{getD}
@@ -14,8 +14,8 @@ use Rattle.exact.specs.Ranges.{sumTo, countTo}
 use Rattle.exact.specs.declared.Question.{Question}
 use Rattle.model.specs.Job.{Profile, Live}
 use Rattle.model.specs.Lanes.{bit, reduction, additional}
-use Rattle.model.specs.Traffic.{assigned, overloadSum, sumOn, isAdditional, bestOn}
-use Rattle.model.specs.Arrangements.{KindsFit}
+use Rattle.model.specs.Traffic.{overloadSum, sumOn, bestOn}
+use Rattle.model.specs.Arrangements.{KindsFit, FactorsFit}
 use Rattle.magnitudes.specs.Magnitudes.{hnLaneMost, factoredMost, sumMost}
 use Rattle.sets.specs.declared.Group.{Group}
 use Rattle.sets.specs.declared.Loading.{Loading}
@@ -43,40 +43,42 @@ precedes q v k i = if ltb k i then not (beats q (v i) (v k)) else beats q (v k) 
 unfoldable pub rank : Question → (n : ℕ) → (v : ℕ → ℤ) → (i : ℕ) → ℕ
 rank q n v i = countTo n (λ k. precedes q v k i)
 
--- the ranks of n lanes
+-- the ranks of n lanes, and 0 past the last
 pub record Ranked (q : Question) (n : ℕ) (v : ℕ → ℤ) (ranks : List ℕ) : Type 0 where
   pub each : (i : ℕ) → i < n → numberAt ranks i ≡ rank q n v i
+  pub past : (i : ℕ) → n ≤ i → numberAt ranks i ≡ 0
 
 -- ---- normal
 
 -- a group of the lanes whose rank is below m
-pub record FirstLanes (n : ℕ) (rank : ℕ → ℕ) (v : ℕ → ℤ) (m : ℕ) (group : Group) : Type 0 where
+pub record FirstLanes (n : ℕ) (ranks : ℕ → ℕ) (v : ℕ → ℤ) (m : ℕ) (group : Group) : Type 0 where
   pub small : group .set < 2 ^ n
-  pub bits : (i : ℕ) → i < n → bit (group .set) i ≡ ltb (rank i) m
-  pub sum : group .sum ≡ sumTo n (λ i. if ltb (rank i) m then v i else pos 0)
+  pub bits : (i : ℕ) → i < n → bit (group .set) i ≡ ltb (ranks i) m
+  pub sum : group .sum ≡ sumTo n (λ i. if ltb (ranks i) m then v i else pos 0)
   pub near : Within (5 * hnLaneMost) (group .sum)
 
 -- those lanes under HN, at the r of their number
-pub record FirstAt (n : ℕ) (rank : ℕ → ℕ) (v : ℕ → ℤ) (m : ℕ) (r : Loading) : Type 0 where
+pub record FirstAt (n : ℕ) (ranks : ℕ → ℕ) (v : ℕ → ℤ) (m : ℕ) (r : Loading) : Type 0 where
   pub lane : r .lane ≡ 5
   pub small : r .set < 2 ^ n
-  pub bits : (i : ℕ) → i < n → bit (r .set) i ≡ ltb (rank i) m
+  pub bits : (i : ℕ) → i < n → bit (r .set) i ≡ ltb (ranks i) m
   pub none : (i : ℕ) → numberAt (r .factors) i ≡ 0
-  pub value : r .value ≡ reduction (countTo n (λ i. ltb (rank i) m)) *ℤ sumTo n (λ i. if ltb (rank i) m then v i else pos 0)
+  pub value : r .value ≡ reduction (countTo n (λ i. ltb (ranks i) m)) *ℤ sumTo n (λ i. if ltb (ranks i) m then v i else pos 0)
 
 -- ---- overload
 
--- lane i's factor beside HO in lane o: that of its rank among the others, where it gives more than nothing
-unfoldable pub factorBy : Question → (rank : ℕ → ℕ) → (v : ℕ → ℤ) → (o i : ℕ) → ℕ
-factorBy q rank v o i = if eqb i o then 0 else (if beats q (v i) (pos 0) then additional (if ltb (rank o) (rank i) then rank i - 1 else rank i) else 0)
+-- lane i's factor beside HO in lane o: that of its rank among the others, where its value beats 0
+unfoldable pub factorByRank : Question → (ranks : ℕ → ℕ) → (v : ℕ → ℤ) → (o i : ℕ) → ℕ
+factorByRank q ranks v o i = if eqb i o then 0 else (if beats q (v i) (pos 0) then additional (if ltb (ranks o) (ranks i) then ranks i - 1 else ranks i) else 0)
 
--- a group of the lanes that have a factor, each at its own, and the factors
-pub record AdditionalLanes (n : ℕ) (factor : ℕ → ℕ) (v : ℕ → ℤ) (group : Group) (all : List ℕ) : Type 0 where
+-- a group of the lanes that have a factor, each at its own, and the factors, 0 past the last lane
+pub record OthersRight (n : ℕ) (factor : ℕ → ℕ) (v : ℕ → ℤ) (group : Group) (all : List ℕ) : Type 0 where
   pub small : group .set < 2 ^ n
   pub bits : (i : ℕ) → i < n → bit (group .set) i ≡ ltb 0 (factor i)
   pub sum : group .sum ≡ sumTo n (λ i. pos (factor i) *ℤ v i)
   pub near : Within (5 * factoredMost) (group .sum)
   pub factors : (i : ℕ) → i < n → numberAt all i ≡ factor i
+  pub past : (i : ℕ) → n ≤ i → numberAt all i ≡ 0
 
 -- those lanes beside HO of this value in lane o
 pub record OverloadAt (n : ℕ) (factor : ℕ → ℕ) (v : ℕ → ℤ) (ho : ℤ) (o : ℕ) (r : Loading) : Type 0 where
@@ -84,6 +86,7 @@ pub record OverloadAt (n : ℕ) (factor : ℕ → ℕ) (v : ℕ → ℤ) (ho : �
   pub small : r .set < 2 ^ n
   pub bits : (i : ℕ) → i < n → bit (r .set) i ≡ ltb 0 (factor i)
   pub factors : (i : ℕ) → i < n → numberAt (r .factors) i ≡ factor i
+  pub past : (i : ℕ) → n ≤ i → numberAt (r .factors) i ≡ 0
   pub value : r .value ≡ overloadSum n v ho factor
 
 -- ---- the best loading
@@ -94,8 +97,8 @@ pub record LoadingRight (q : Question) (profile : Profile) (live : Live) (n : �
   pub kinds : KindsFit profile live (countTo n (bit (r .set))) (countTo n (λ i. eqb i (r .lane)))
   pub small : r .set < 2 ^ n
   pub apart : bit (r .set) (r .lane) ≡ false
-  pub additional : (i : ℕ) → i < n → ltb 0 (numberAt (r .factors) i) ≡ isAdditional live (bit (r .set) i)
-  pub factors : assigned n (numberAt (r .factors)) ≡ true
+  pub factors : FactorsFit live n (bit (r .set)) (numberAt (r .factors))
+  pub past : (i : ℕ) → n ≤ i → numberAt (r .factors) i ≡ 0
   pub value : r .value ≡ sumOn profile live n (λ i. if bit (r .set) i then hn i else pos 0) (λ i. if eqb i (r .lane) then ho i else pos 0) (countTo n (bit (r .set))) (numberAt (r .factors))
   pub best : r .value ≡ bestOn q profile live n hn ho
   pub near : Within sumMost (r .value)

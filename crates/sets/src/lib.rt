@@ -10,9 +10,9 @@ ghost use Rattle.exact.specs.Choice.{if_then_else_};
 ghost use Rattle.exact.specs.Questions.{beats as beatsFor, NoBetter};
 ghost use Rattle.exact.specs.declared.Question.{Question};
 ghost use Rattle.model.specs.Job.{highway, rural, normal, overload};
-ghost use Rattle.model.specs.Lanes.{bit, reduction as reductionOf, additional as additionalOf};
+ghost use Rattle.model.specs.Lanes.{bit, twentieths as twentiethsOf, reduction as reductionOf, additional as additionalOf};
 ghost use Rattle.magnitudes.specs.Magnitudes.{hnLaneMost, hoLaneMost, factoredMost};
-ghost use Rattle.sets.specs.Sets.{valueAt, numberAt, ValuesFit, precedes as precedesOf, rank as rankOf, Ranked, FirstLanes, FirstAt, factorBy, AdditionalLanes, OverloadAt, LoadingRight};
+ghost use Rattle.sets.specs.Sets.{valueAt, numberAt, ValuesFit, precedes as precedesOf, rank as rankOf, Ranked, FirstLanes, FirstAt, factorByRank, OthersRight, OverloadAt, LoadingRight};
 
 // Lane i's bit.
 pub fn has(set: u32, i: usize) -> bool
@@ -45,7 +45,7 @@ pub fn loaded(set: u32, lane: usize) -> u32
 
 // Whether lane k precedes lane i.
 fn precedes(q: Question, values: [i64; 5], k: usize, i: usize) -> bool
-    requires { ⌜ (k < 5) × (i < 5) ⌝ }
+    requires { ⌜ (k < 5) × (i < 5) × Within hnLaneMost (valueAt values k) × Within hnLaneMost (valueAt values i) ⌝ }
     ensures { λ r. ⌜ r ≡ precedesOf q (valueAt values) k i ⌝ }
 {
     if k < i {
@@ -56,7 +56,7 @@ fn precedes(q: Question, values: [i64; 5], k: usize, i: usize) -> bool
 
 // 1 where lane k precedes lane i, else 0.
 fn ahead(q: Question, values: [i64; 5], k: usize, i: usize) -> usize
-    requires { ⌜ (k < 5) × (i < 5) ⌝ }
+    requires { ⌜ (k < 5) × (i < 5) × Within hnLaneMost (valueAt values k) × Within hnLaneMost (valueAt values i) ⌝ }
     ensures { λ r. ⌜ (r ≡ (if precedesOf q (valueAt values) k i then 1 else 0)) × (r ≤ 1) ⌝ }
 {
     if precedes(q, values, k, i) {
@@ -67,7 +67,7 @@ fn ahead(q: Question, values: [i64; 5], k: usize, i: usize) -> usize
 
 // Lane i's rank among n lanes.
 fn rank(q: Question, values: [i64; 5], n: usize, i: usize) -> usize
-    requires { ⌜ (n ≤ 5) × (i < 5) ⌝ }
+    requires { ⌜ (n ≤ 5) × (i < n) × ((k : ℕ) → k < n → Within hnLaneMost (valueAt values k)) ⌝ }
     ensures { λ r. ⌜ r ≡ rankOf q n (valueAt values) i ⌝ }
 {
     let mut r: usize = 0;
@@ -79,7 +79,7 @@ fn rank(q: Question, values: [i64; 5], n: usize, i: usize) -> usize
 
 // The rank of each of n lanes.
 pub fn ranks(q: Question, values: [i64; 5], n: usize) -> [usize; 5]
-    requires { ⌜ n ≤ 5 ⌝ }
+    requires { ⌜ (n ≤ 5) × ((k : ℕ) → k < n → Within hnLaneMost (valueAt values k)) ⌝ }
     ensures { λ r. ⌜ Ranked q n (valueAt values) r ⌝ }
 {
     let mut all = [0usize; 5];
@@ -89,9 +89,26 @@ pub fn ranks(q: Question, values: [i64; 5], n: usize) -> [usize; 5]
     all
 }
 
+// ---- factors
+
+// The factors of 3.2.4 in twentieths, by a number of lanes.
+fn twentieths(m: u32) -> u32
+    ensures { λ r. ⌜ (r ≡ twentiethsOf m) × (r ≤ 20) ⌝ }
+{
+    if m < 2 {
+        return 20;
+    }
+    match m {
+        2 => 18,
+        3 => 16,
+        4 => 14,
+        _ => 12,
+    }
+}
+
 // ---- a set and its sum
 
-// A set of lanes and the sum of what they give.
+// A set of lanes and the sum of what they give, in 75 N·U times thousandths times the sums' denominator, and times twentieths where they are at factors.
 struct Group {
     set: u32,
     sum: i64,
@@ -111,7 +128,7 @@ fn joined(group: Group, loaded: bool, i: usize, value: i64) -> Group
     group
 }
 
-// The HO lane, 5 where there is none, the set of the HN lanes, each lane's factor in twentieths, 0 where it is not additional, and their sum.
+// A live kind's sum in 75 N·U times thousandths, twentieths and the sums' denominator; its HO lane, 5 where there is none; the set of its HN lanes; each lane's factor in twentieths, 0 where it is not additional.
 pub struct Loading {
     pub value: i64,
     pub lane: usize,
@@ -131,20 +148,11 @@ fn better(q: Question, a: Loading, b: Loading) -> Loading
 
 // ---- normal
 
-// r in twentieths: the ones of the set choose.
+// r of the set in twentieths: its ones choose.
 fn reduction(set: u32) -> i64
     ensures { λ r. ⌜ (r ≡ reductionOf (ones set)) × Within 20 r ⌝ }
 {
-    let m = u32::count_ones(set);
-    if m < 2 {
-        return 20;
-    }
-    match m {
-        2 => 18,
-        3 => 16,
-        4 => 14,
-        _ => 12,
-    }
+    twentieths(u32::count_ones(set)) as i64
 }
 
 // The lanes whose rank is below m.
@@ -189,19 +197,17 @@ pub fn best_normal(q: Question, ranks: [usize; 5], hn: [i64; 5], n: usize) -> Lo
 
 // ---- overload
 
-// The factor of additional lane m, the first being 0.
+// The factor of additional lane m, counted from 0, in twentieths.
 fn additional(m: usize) -> u32
+    requires { ⌜ m ≤ 5 ⌝ }
     ensures { λ r. ⌜ (r ≡ additionalOf m) × (r ≤ 20) ⌝ }
 {
-    if m < 3 {
-        return 20 - 2 * (m as u32);
-    }
-    14
+    twentieths(m as u32 + 1)
 }
 
-// A lane's rank among all but one of another rank.
+// A lane's rank once the lane of rank `other` is left out.
 fn place(rank: usize, other: usize) -> usize
-    ensures { λ r. ⌜ r ≡ (if ltb other rank then rank - 1 else rank) ⌝ }
+    ensures { λ r. ⌜ (r ≡ (if ltb other rank then rank - 1 else rank)) × (r ≤ rank) ⌝ }
 {
     if other < rank {
         return rank - 1;
@@ -211,8 +217,8 @@ fn place(rank: usize, other: usize) -> usize
 
 // Lane i's factor beside HO in lane o: a lane that gives nothing stays unloaded.
 fn factor(q: Question, ranks: [usize; 5], hn: [i64; 5], o: usize, i: usize) -> u32
-    requires { ⌜ (o < 5) × (i < 5) ⌝ }
-    ensures { λ r. ⌜ (r ≡ factorBy q (numberAt ranks) (valueAt hn) o i) × (r ≤ 20) ⌝ }
+    requires { ⌜ (o < 5) × (i < 5) × (numberAt ranks i ≤ 5) × Within hnLaneMost (valueAt hn i) ⌝ }
+    ensures { λ r. ⌜ (r ≡ factorByRank q (numberAt ranks) (valueAt hn) o i) × (r ≤ 20) ⌝ }
 {
     if i == o {
         return 0;
@@ -231,8 +237,8 @@ struct Others {
 
 // The lanes beside HO in lane o, each at its factor.
 fn beside(q: Question, ranks: [usize; 5], hn: [i64; 5], n: usize, o: usize) -> Others
-    requires { ⌜ (n ≤ 5) × (o < 5) × ((i : ℕ) → i < n → Within hnLaneMost (valueAt hn i)) ⌝ }
-    ensures { λ r. ⌜ AdditionalLanes n (factorBy q (numberAt ranks) (valueAt hn) o) (valueAt hn) (r .group) (r .factors) ⌝ }
+    requires { ⌜ (n ≤ 5) × (o < 5) × ((i : ℕ) → i < n → numberAt ranks i ≤ 5) × ((i : ℕ) → i < n → Within hnLaneMost (valueAt hn i)) ⌝ }
+    ensures { λ r. ⌜ OthersRight n (factorByRank q (numberAt ranks) (valueAt hn) o) (valueAt hn) (r .group) (r .factors) ⌝ }
 {
     let mut group = Group { set: 0, sum: 0 };
     let mut factors = [0u32; 5];
@@ -246,8 +252,8 @@ fn beside(q: Question, ranks: [usize; 5], hn: [i64; 5], n: usize, o: usize) -> O
 
 // HO of this value in lane o, at 20, and the lanes beside it.
 fn overload_at(q: Question, ranks: [usize; 5], hn: [i64; 5], n: usize, ho: i64, o: usize) -> Loading
-    requires { ⌜ (n ≤ 5) × (o < 5) × ((i : ℕ) → i < n → Within hnLaneMost (valueAt hn i)) × Within hoLaneMost ho ⌝ }
-    ensures { λ r. ⌜ OverloadAt n (factorBy q (numberAt ranks) (valueAt hn) o) (valueAt hn) ho o r ⌝ }
+    requires { ⌜ (n ≤ 5) × (o < 5) × ((i : ℕ) → i < n → numberAt ranks i ≤ 5) × ((i : ℕ) → i < n → Within hnLaneMost (valueAt hn i)) × Within hoLaneMost ho ⌝ }
+    ensures { λ r. ⌜ OverloadAt n (factorByRank q (numberAt ranks) (valueAt hn) o) (valueAt hn) ho o r ⌝ }
 {
     let others = beside(q, ranks, hn, n, o);
     let group = others.group;

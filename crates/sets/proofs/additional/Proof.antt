@@ -1,18 +1,12 @@
-use native.Mathlib.Omega.{arith}
-use mathlib.Core.Path.{refl}
+use mathlib.Core.Path.{_∙_, ap}
+use native.Mathlib.Numerals.{add-one}
 use borrow.Author.Needs.{needs}
-use borrow.Author.Tests.{lt-ltb, le-ltb}
-use Rattle.model.specs.Lanes.{additional}
+use Rattle.model.specs.Lanes.{twentieths}
 use Rattle.sets.proofs.additional.Statement.{statement}
 use Rattle.sets.proofs.additional.Tie as tie
 
 returns : tie.Need-returns
-unfolding additional
-returns c = (rw (lt-ltb _ 3 (c .if1 .taken)) refl, omega arith)
-
-returns-2 : tie.Need-returns-2
-unfolding additional
-returns-2 c = (rw (le-ltb _ 3 (c .if1 .left)) refl, omega arith)
+returns c = (c .twentieths .ensures .0 ∙ ap twentieths (add-one (c .before .args .m)), c .twentieths .ensures .1)
 
 pub additional-spec : {M : Type 1} → statement M
-additional-spec = tie.close (tie.spec (λ c. search needs) (λ c. search needs) (λ c. search needs) returns returns-2)
+additional-spec = tie.close (tie.spec (λ c. search needs) (λ c. search needs) (λ c κs. search needs) returns)

@@ -1,11 +1,8 @@
-use native.Mathlib.Omega.{arith}
 use mathlib.Core.Path.{refl, sym, _∙_}
+use native.Mathlib.Omega.{arith}
 use borrow.Author.Needs.{needs}
 use Rattle.sets.proofs.ahead.Statement.{statement}
 use Rattle.sets.proofs.ahead.Tie as tie
-
-precedes-requires : tie.Need-precedes-requires
-precedes-requires c κs = search needs
 
 returns : tie.Need-returns
 returns c = (rw (sym (c .before .precedes .ensures) ∙ c .if1 .taken) refl, omega arith)
@@ -14,4 +11,4 @@ returns-2 : tie.Need-returns-2
 returns-2 c = (rw (sym (c .before .precedes .ensures) ∙ c .if1 .left) refl, omega arith)
 
 pub ahead-spec : {M : Type 1} → statement M
-ahead-spec = tie.close (tie.spec precedes-requires returns returns-2)
+ahead-spec = tie.close (tie.spec (λ c κs. search needs) returns returns-2)

@@ -6,7 +6,8 @@ use lib.IntN.{ℤ}
 use mir.Syntax.{w64}
 use borrow.Author.Needs.{needs}
 use Rattle.exact.proofs.Held.{known, told}
-use Rattle.sets.specs.Sets.{valueAt, OverloadAt}
+use Rattle.sets.specs.Sets.{valueAt, numberAt, OverloadAt}
+use Rattle.sets.proofs.Places.{rank-few}
 use Rattle.sets.proofs.Best.{BestTo, best-first, best-more, held, heldSum, overload-right}
 use Rattle.sets.proofs.best_overload.Statement.{statement}
 use Rattle.sets.proofs.best_overload.Tie as tie
@@ -18,8 +19,12 @@ Inv-loop q ranks hn n ho best₀ o₀ best o =
 abbrev μ-loop : tie.MeasureT-loop
 μ-loop q ranks hn n ho best₀ o₀ best o = n - o
 
+-- ranks are few
+few : (s : tie.Start Inv-loop μ-loop) (i : ℕ) → i < s .args .n → numberAt (s .args .ranks) i ≤ 5
+few s i h = let r = rank-few (s .args .q) (s .args .n) (valueAt (s .args .hn)) i in omega (arith, s .pre .2 .each i h)
+
 overload-at-requires : tie.Need-overload-at-requires Inv-loop μ-loop
-overload-at-requires c κs = let s = c .before in (s .pre .1, omega arith, s .pre .3 .near, told (known w64 (s .pre .4 0 (s .pre .0)) (lit< tt)) .1)
+overload-at-requires c κs = let s = c .before in (s .pre .1, omega arith, few s, s .pre .3 .near, told (known w64 (s .pre .4 0 (s .pre .0)) (lit< tt)) .1)
 
 loop-holds : tie.Need-loop-holds Inv-loop μ-loop
 loop-holds c =
@@ -35,7 +40,7 @@ loop-holds c =
 overload-at-requires-2 : tie.Need-overload-at-requires-2 Inv-loop μ-loop
 overload-at-requires-2 c κs =
     let s = c .before .before .before .before .before in
-    (s .pre .1, omega arith, s .pre .3 .near, told (known w64 (s .pre .4 (c .before .before .loop .o) (omega arith)) (lit< tt)) .1)
+    (s .pre .1, omega arith, few s, s .pre .3 .near, told (known w64 (s .pre .4 (c .before .before .loop .o) (omega arith)) (lit< tt)) .1)
 
 loop-again : tie.Need-loop-again Inv-loop μ-loop
 loop-again c =

@@ -13,7 +13,7 @@ use Rattle.sets.proofs.overload_at.Tie as tie
 -- HO at 20
 module _ (s : tie.Start) where
   abbrev ho : Kept w64 hoLaneMost (s .args .ho)
-  ho = (_, arg (s .fits .ho) (s .pre .3))
+  ho = (_, arg (s .fits .ho) (s .pre .4))
 
   abbrev heavy : Kept w64 (20 * hoLaneMost) (pos 20 *ℤ s .args .ho)
   heavy = (_, times (lit w64 20 (lit< tt)) (ho .1) (lit< tt))
@@ -27,10 +27,10 @@ module _ (c : tie.After-struct-told) where
   rest = (_, known w64 (c .before .before .before .before .beside .ensures .near) (lit< tt))
 
 mul-value : tie.Need-mul-value
-mul-value c = times! (lit w64 20 (lit< tt)) (ho (c .before .before .before) .1) (lit< tt)
+mul-value c = let h = ho (c .before .before .before) .1 in search (times! (lit w64 20 (lit< tt)) h (lit< tt), times! (lit w64 18 (lit< tt)) h (lit< tt))
 
 add-value : tie.Need-add-value
-add-value c = plus! (heavy (s c) .1) (rest c .1) (lit< tt)
+add-value c = let h = ho (s c) .1 in search (plus! (times (lit w64 20 (lit< tt)) h (lit< tt)) (rest c .1) (lit< tt), plus! (times (lit w64 18 (lit< tt)) h (lit< tt)) (rest c .1) (lit< tt))
 
 returns : tie.Need-returns
 unfolding overloadSum
@@ -41,6 +41,7 @@ returns c =
       small = b .small;
       bits = b .bits;
       factors = b .factors;
+      past = b .past;
       value = plus (heavy (s c) .1) (rest c .1) (lit< tt) .is ∙ ap (λ (z : ℤ). pos 20 *ℤ s c .args .ho +ℤ z) (b .sum);
     }
 

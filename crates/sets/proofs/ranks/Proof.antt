@@ -16,7 +16,7 @@ loop-holds : tie.Need-loop-holds Inv-loop μ-loop
 loop-holds c = (omega arith, filled-none _ 5 0)
 
 rank-requires : tie.Need-rank-requires Inv-loop μ-loop
-rank-requires c κs = omega arith
+rank-requires c κs = let s = c .before .before in (s .pre .0, omega arith, s .pre .1)
 
 mul-all : tie.Need-mul-all Inv-loop μ-loop
 mul-all c = omega arith
@@ -36,7 +36,7 @@ loop-again c = (omega arith, filled-more (c .rank .result) (omega arith) (c .bef
 returns : tie.Need-returns Inv-loop μ-loop
 returns c =
     let f = c .before .loop .inv .1 in
-    record { each = λ k h. f .each k (omega arith) }
+    record { each = λ k h. f .each k (omega arith); past = λ k h. f .past k (omega arith) }
 
 pub ranks-spec : {M : Type 1} → statement M
 ranks-spec =

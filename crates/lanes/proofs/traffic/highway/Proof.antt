@@ -68,4 +68,4 @@ returns c =
 pub highway-spec : {M : Type 1} → statement M
 highway-spec =
     tie.close
-    (tie.spec (λ c κs. (c .pre .0, hn-wide c)) (λ c κs. (c .before .pre .0, c .before .pre .4)) (λ c κs. s c .pre .0 .few) (λ c κs. (s (c .before) .pre .0 .few, c .ranks .ensures, light (c .before))) (λ c κs. let all = c .before .before in (s all .pre .0 .some, s all .pre .0 .few, c .before .ranks .ensures, light all, heavy all .near)) found-requires found-requires-2 returns)
+    (tie.spec (λ c κs. (c .pre .0, hn-wide c)) (λ c κs. (c .before .pre .0, c .before .pre .4)) (λ c κs. (s c .pre .0 .few, light c .near)) (λ c κs. (s (c .before) .pre .0 .few, c .ranks .ensures, light (c .before))) (λ c κs. let all = c .before .before in (s all .pre .0 .some, s all .pre .0 .few, c .before .ranks .ensures, light all, heavy all .near)) found-requires found-requires-2 returns)
