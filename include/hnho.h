@@ -208,7 +208,7 @@ struct hnho_position {
 struct hnho_lane {
   int64_t entry;   /* of enum hnho_lane_entry */
   int64_t centre;  /* in n-ths of a cm from the left kerb, n the lanes of its carriageway */
-  int64_t factor;  /* in twentieths, of an additional lane beside an HO lane; reserved, 0 */
+  int64_t factor;  /* in twentieths, of an additional lane, one under HN beside the HO lane of an overload: 20, 18, 16 or 14; else 0 */
 };
 
 /* A placement of traffic. */
@@ -245,7 +245,8 @@ struct hnho_account {
   struct hnho_position raising;
   struct hnho_position lowering;
 
-  /* A placement that gives each traffic value. */
+  /* A placement that gives each traffic value. In normal all loaded lanes count one factor, by their number; in overload the HO
+   * lane counts in full, and each additional lane the factor that it shows. */
   struct hnho_placement normal_greatest_placement;
   struct hnho_placement normal_least_placement;
   struct hnho_placement overload_greatest_placement;

@@ -50,8 +50,8 @@ class Counts:
                 inside = basename(line.strip()) == basename(program)
             elif found := re.match(r"(?:jcnd|jump)=(\d+)(?:/\d+)? (0x[0-9a-f]+)", line):
                 jump = int(found[1]), int(found[2], 16)
-            elif inside and (found := re.match(r"(0x[0-9a-f]+) ?(\d*)", line)):
-                place = at.get(int(found[1], 16))
+            elif found := re.match(r"(0x[0-9a-f]+) ?(\d*)", line):
+                place = inside and at.get(int(found[1], 16))
                 if place and jump:
                     self.followed[place][at.get(jump[1])] += jump[0]
                 elif place:

@@ -17,7 +17,12 @@ loop-holds : tie.Need-loop-holds Inv-loop μ-loop
 loop-holds c = (omega arith, (omega arith, refl))
 
 ahead-requires : tie.Need-ahead-requires Inv-loop μ-loop
-ahead-requires c κs = let s = c .before .before in let l = c .before .loop in (omega arith, omega arith, s .pre .2 (l .k) (omega arith), s .pre .2 (s .args .i) (s .pre .1))
+ahead-requires c κs =
+    let s = c .before .before in
+    let l = c .before .loop in
+    let other = s .pre .2 (l .k) (omega arith) in
+    let own = s .pre .2 (s .args .i) (s .pre .1) in
+    (omega arith, omega arith, search (other, own), search (other, own))
 
 add-r : tie.Need-add-r Inv-loop μ-loop
 add-r c = omega arith
