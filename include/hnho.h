@@ -245,8 +245,8 @@ struct hnho_account {
   struct hnho_position raising;
   struct hnho_position lowering;
 
-  /* A placement that gives each traffic value. In normal all loaded lanes count one factor, by their number; in overload the HO
-   * lane counts in full, and each additional lane the factor that it shows. */
+  /* A placement that gives each traffic value. In normal all loaded lanes count one factor, by their number; in overload, of which a
+   * farm job has none, the HO lane counts in full, and each additional lane the factor that it shows. */
   struct hnho_placement normal_greatest_placement;
   struct hnho_placement normal_least_placement;
   struct hnho_placement overload_greatest_placement;

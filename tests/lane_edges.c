@@ -1,6 +1,6 @@
-/* Additional overload lanes, on carriageways of one to five lanes: every order of their effects, ties, lanes that give nothing and
- * lanes that relieve, for either question. What is due is worked out here by trying every HO lane and every assignment of the
- * factors to any of the other lanes.
+/* Additional overload lanes, on carriageways of one to five lanes: four different effects in every order, ties, lanes that give nothing
+ * and lanes that relieve, for either question. What is due is worked out here by trying every HO lane and every assignment of the
+ * factors to any of the other lanes. The line has one sign, so that HO is worth most where HN is.
  *
  *   lane_edges
  *
@@ -20,7 +20,7 @@ static const int64_t additional[MOST_LANES - 1] = {20, 18, 16, 14};
 /* Widths of one to five lanes, in cm; each is lanes times a width that SPACING divides. */
 static const int32_t widths[MOST_LANES] = {450, 900, 1200, 1600, 2000};
 
-/* The job: its lanes, each one's transverse ordinate in thousandths, the same all over it, and the line's sign. */
+/* The job: its lanes, each one's transverse ordinate in thousandths, the same wherever its element may stand, and the line's sign. */
 static int lanes, sign;
 static int32_t across[MOST_LANES];
 
@@ -79,10 +79,9 @@ static int64_t most_overload(int question) {
   return most;
 }
 
-/* Twentieths of 75 N.U times thousandths in N.U: the dynamic factor is 1000, and 3 / 800000 of 1000 is 3 / 800. The numbers are
- * multiples of 800. */
+/* Twentieths of 75 N.U times thousandths in N.U: the dynamic factor is 1000, and 3 / 800000 of 1000 is 3 / 800. HN and HO are multiples
+ * of 800, so nothing is rounded. */
 static int64_t in_newtons(int64_t sum) {
-  expect(sum % 800 == 0, "is not whole");
   return sum / 800 * 3;
 }
 
@@ -90,15 +89,16 @@ static int64_t in_newtons(int64_t sum) {
 static int64_t lane_sum(const struct hnho_placement *p, int i, int question) {
   const struct hnho_lane lane = p->lane[i];
   const int64_t sense = lane.entry == HNHO_HN_RAISING || lane.entry == HNHO_HO_RAISING ? 1 : -1;
-  const int64_t effect = question * sense * across[i];
+  const int64_t effect = sense == sign ? question * sign * across[i] : 0;
   if (lane.entry == HNHO_HO_RAISING || lane.entry == HNHO_HO_LOWERING)
-    return sense == sign ? 20 * effect * HO : 0;
-  return sense == sign ? lane.factor * effect * HN : 0;
+    return 20 * effect * HO;
+  return lane.factor * effect * HN;
 }
 
 /* An overload placement: one HO lane, without a factor; each HN lane with a factor, those of that many additional lanes, each once; the
- * others unloaded, without one; and its value is its lanes'. */
+ * others unloaded, without one; centres within their lanes' limits, in n-ths of a cm; and its value is its lanes'. */
 static void expect_overload(const struct hnho_placement *p, int64_t value, int question, const char *what) {
+  const int64_t width = widths[lanes - 1];
   int64_t set = 0, sum = 0, factors = 0, due = 0;
   int heavy = 0, light = 0, i;
   for (i = 0; i < HNHO_LANES; i++) {
@@ -109,6 +109,7 @@ static void expect_overload(const struct hnho_placement *p, int64_t value, int q
       continue;
     }
     expect(i < lanes, what);
+    expect(lane.centre >= i * width + 150 * lanes && lane.centre <= (i + 1) * width - 150 * lanes, what);
     expect(hn ? lane.factor >= 14 && lane.factor <= 20 && lane.factor % 2 == 0 : lane.factor == 0, what);
     set |= INT64_C(1) << i;
     sum += lane_sum(p, i, question);
@@ -165,7 +166,7 @@ static void every_choice(const int32_t *ordinates, int count, int lane) {
 }
 
 int main(void) {
-  static const int32_t ordinates[] = {-1000, -600, 0, 550, 1000};
+  static const int32_t ordinates[] = {-600, 0, 400, 600, 800, 1000};
   step = "lanes of every order";
   for (lanes = 1; lanes <= MOST_LANES; lanes++)
     every_choice(ordinates, sizeof ordinates / sizeof *ordinates, 0);

@@ -21,11 +21,11 @@ use Rattle.exact.proofs.Weights.{sumWhere, choice-unbeaten}
 abbrev upTo : ℕ → ℕ → ℕ
 upTo t f = f - (f - t)
 
--- the part of the lanes' sum up to level t
+-- the part of the sum up to level t
 abbrev level : (n : ℕ) → (v : ℕ → ℤ) → (f : ℕ → ℕ) → ℕ → ℤ
 level n v f t = sumTo n (λ i. pos (upTo t (f i)) *ℤ v i)
 
--- one level more: the lanes whose factor reaches it
+-- one level more: the values whose factor reaches it
 level-step : (n : ℕ) (v : ℕ → ℤ) (f : ℕ → ℕ) (t : ℕ) → level n v f (suc t) ≡ level n v f t +ℤ sumWhere n (λ i. ltb t (f i)) v
 level-step n v f t = sum-cong n _ _ (λ i _. one (f i) (v i)) ∙ sum-add n (λ i. pos (upTo t (f i)) *ℤ v i) (λ i. if ltb t (f i) then v i else pos 0)
   where
@@ -35,7 +35,7 @@ level-step n v f t = sum-cong n _ _ (λ i _. one (f i) (v i)) ∙ sum-add n (λ 
         (λ e. let h = ltb-true t f e in ap (λ (m : ℕ). pos m *ℤ x) (omega arith) ∙ solve 2 (λ m x. (m ⊕ lit 1) ⊗ x ≐ m ⊗ x ⊕ x) tt (pos (upTo t f)) x)
         (λ e. let h = ltb-false t f e in ap (λ (m : ℕ). pos m *ℤ x) (omega arith) ∙ solve 2 (λ m x. m ⊗ x ≐ m ⊗ x ⊕ lit 0) tt (pos (upTo t f)) x)
 
--- where values are never worse than 0: no factors beat w, whose factors follow the values and reach each level as often
+-- where values are never worse than 0: no factors beat w, whose factors follow the values and reach each level at least as often
 pub factors-unbeaten : (q : Question) (n : ℕ) (v : ℕ → ℤ) (f w : ℕ → ℕ) → ((i : ℕ) → i < n → NoBetter q (pos 0) (v i)) →
     ((i k : ℕ) → i < n → k < n → w k < w i → NoBetter q (v k) (v i)) → (top : ℕ) →
     ((t : ℕ) → t < top → countTo n (λ i. ltb t (f i)) ≤ countTo n (λ i. ltb t (w i))) → ((i : ℕ) → i < n → (f i ≤ top) × (w i ≤ top)) → NoBetter q (sumTo n (λ i. pos (f i) *ℤ v i)) (sumTo n (λ i. pos (w i) *ℤ v i))

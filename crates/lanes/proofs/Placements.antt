@@ -16,7 +16,7 @@ use Rattle.exact.specs.Choice.{if_then_else_}
 use Rattle.exact.specs.Ranges.{countTo}
 use Rattle.exact.specs.declared.Question.{Question}
 use Rattle.exact.proofs.Bridge.{by-test}
-use Rattle.model.specs.Job.{Job, Live, noTraffic, normal, overload}
+use Rattle.model.specs.Job.{Job, Live}
 use Rattle.model.specs.Line.{HN, HO}
 use Rattle.model.specs.Lanes.{bit, lanes, unit}
 use Rattle.model.specs.Traffic.{isAdditional, bestSum, effectOf, trafficValue}
@@ -28,7 +28,7 @@ use Rattle.model.specs.declared.Entry.the-variants.{Unloaded, Hn, Ho}
 use Rattle.model.specs.declared.Lane.{Lane}
 use Rattle.model.specs.declared.Extreme.{Extreme}
 use Rattle.model.proofs.Sets.{setNumber, set-number, number-cong, number-with}
-use Rattle.model.proofs.Attained.{placed-lanes, placed-sum, placed-factors}
+use Rattle.model.proofs.Attained.{placed-lanes, placed-sum, placed-factors, never-additional}
 use Rattle.centres.specs.declared.Across.{Across}
 use Rattle.sets.specs.Sets.{numberAt}
 use Rattle.sets.specs.declared.Loading.{Loading}
@@ -54,12 +54,7 @@ ho-by hn over f false false = refl
 
 -- no factor outside the set
 none : (live : Live) {f : ℕ} (b : Bool) → b ≡ false → ltb 0 f ≡ isAdditional live b → 0 ≡ f
-none live {f} b is e = let h = ltb-false 0 f (e ∙ ap (isAdditional live) is ∙ never live) in omega arith
-  where
-    never : (live : Live) → isAdditional live false ≡ false
-    never noTraffic = refl
-    never normal = refl
-    never overload = refl
+none live {f} b is e = let h = ltb-false 0 f (e ∙ ap (isAdditional live) is ∙ never-additional live) in omega arith
 
 -- it shows its factor, where only a lane of the set that is not the HO lane has one
 factor-by : (live : Live) (hn over : Chosen) (f : ℕ) (a b : Bool) → (a ≡ true → b ≡ false) → ltb 0 f ≡ isAdditional live b → laneBy hn over f a b .factor ≡ f

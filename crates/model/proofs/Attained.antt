@@ -182,18 +182,19 @@ module _ (q : Question) (job : Job) (live : Live) (p : Placement) (s : ℕ) (ove
   }
 
 -- ---- what a lane shows
+-- a lane that is not under HN is not additional
+pub never-additional : (live : Live) → isAdditional live false ≡ false
+never-additional noTraffic = refl
+never-additional normal = refl
+never-additional overload = refl
+
 -- an account's lane shows a factor exactly where it is additional: any other lane shows 0
 pub shows : {q : Question} {job : Job} {patch : List ℕ} {a : Account} {live : Live} {x : Extreme} → TrafficRight job patch a q live x → (i : ℕ) → ltb 0 (factorAt (x .placement) i) ≡ isAdditional live (entryIs HN (laneAt (x .placement) i .entry))
 unfolding reported
 shows {q} {job} {patch} {a} {live} {x} r i = elim (decLe (lanes job) i) [
-  | yes l ↦ let e = r .idle i (r .onDeck i l) in ap (λ (y : Lane). ltb 0 (y .factor)) e ∙ sym (never live) ∙ sym (ap (λ (y : Lane). isAdditional live (entryIs HN (y .entry))) e)
+  | yes l ↦ let e = r .idle i (r .onDeck i l) in ap (λ (y : Lane). ltb 0 (y .factor)) e ∙ sym (never-additional live) ∙ sym (ap (λ (y : Lane). isAdditional live (entryIs HN (y .entry))) e)
   | no l ↦ r .lawful .factors .lanes i (omega arith) ∙ ap (isAdditional live) (carried HN job patch a (laneAt (x .placement) i .entry) (laneAt (x .placement) i .centre))
 ]
-  where
-    never : (live : Live) → isAdditional live false ≡ false
-    never noTraffic = refl
-    never normal = refl
-    never overload = refl
 
 -- ---- a state
 -- the traffic counted for a row is its value, where the reported placement gives it

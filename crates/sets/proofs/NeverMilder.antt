@@ -1,6 +1,6 @@
 -- Additional lanes each at its own factor are never milder than all at the r of their number.
 use mathlib.Core.Path.{_≡_, refl, sym, _∙_, ap, subst}
-use mathlib.Core.Bool.{Bool, true, false, _&&_}
+use mathlib.Core.Bool.{Bool, false, _&&_}
 use Prim.Native.Nat.{ℕ, _^_, _<_}
 use lib.IntN.{ℤ, pos, _+ℤ_, _*ℤ_}
 use Rattle.exact.specs.Choice.{if_then_else_}
@@ -17,7 +17,7 @@ use Rattle.model.specs.Traffic.{setSum, overloadSum, bestOverload}
 use Rattle.model.proofs.Assignments.{overload-unbeaten}
 use Rattle.model.proofs.Lanes.{twentieths-falls}
 use Rattle.sets.proofs.Factors.{by-counts}
-use Rattle.sets.proofs.FirstSets.{reducedSum, reduced-set}
+use Rattle.sets.proofs.FirstSets.{reduced-set}
 use Rattle.sets.proofs.Places.{placeIn, place-below, places-count}
 
 -- beside HO in lane o, the lanes of a set without it at the r of their number do not beat overload's best

@@ -1,7 +1,7 @@
 -- Sets of lanes as numbers, factors of additional lanes, and the best of them: by the lanes' ranks.
 use mathlib.Core.Path.{_≡_}
 use mathlib.Core.Logic.{_⊎_}
-use mathlib.Core.Bool.{Bool, true, false, not}
+use mathlib.Core.Bool.{Bool, false, not}
 use mathlib.Core.List.{List}
 use Prim.Native.Nat.{ℕ, _-_, _*_, _^_, _≤_, _<_}
 use lib.IntN.{ℤ, pos, _*ℤ_}
@@ -20,7 +20,7 @@ use Rattle.magnitudes.specs.Magnitudes.{hnLaneMost, factoredMost, sumMost}
 use Rattle.sets.specs.declared.Group.{Group}
 use Rattle.sets.specs.declared.Loading.{Loading}
 
--- lane i's value
+-- lane i's value: 75 N·U times thousandths times the sums' denominator
 abbrev pub valueAt : List ℤ → ℕ → ℤ
 valueAt values i = getD values i (pos 0)
 
@@ -57,7 +57,7 @@ pub record FirstLanes (n : ℕ) (ranks : ℕ → ℕ) (v : ℕ → ℤ) (m : ℕ
   pub sum : group .sum ≡ sumTo n (λ i. if ltb (ranks i) m then v i else pos 0)
   pub near : Within (5 * hnLaneMost) (group .sum)
 
--- those lanes under HN, at the r of their number
+-- a loading of the lanes whose rank is below m, under HN at the r of their number
 pub record FirstAt (n : ℕ) (ranks : ℕ → ℕ) (v : ℕ → ℤ) (m : ℕ) (r : Loading) : Type 0 where
   pub lane : r .lane ≡ 5
   pub small : r .set < 2 ^ n
@@ -67,7 +67,7 @@ pub record FirstAt (n : ℕ) (ranks : ℕ → ℕ) (v : ℕ → ℤ) (m : ℕ) (
 
 -- ---- overload
 
--- lane i's factor beside HO in lane o: that of its rank among the others, where its value beats 0
+-- lane i's factor beside HO in lane o, in twentieths: that of its rank among the others, where its value beats 0
 unfoldable pub factorByRank : Question → (ranks : ℕ → ℕ) → (v : ℕ → ℤ) → (o i : ℕ) → ℕ
 factorByRank q ranks v o i = if eqb i o then 0 else (if beats q (v i) (pos 0) then additional (if ltb (ranks o) (ranks i) then ranks i - 1 else ranks i) else 0)
 
@@ -80,7 +80,7 @@ pub record OthersRight (n : ℕ) (factor : ℕ → ℕ) (v : ℕ → ℤ) (group
   pub factors : (i : ℕ) → i < n → numberAt all i ≡ factor i
   pub past : (i : ℕ) → n ≤ i → numberAt all i ≡ 0
 
--- those lanes beside HO of this value in lane o
+-- a loading of HO of this value in lane o, and of HN in the lanes that have a factor
 pub record OverloadAt (n : ℕ) (factor : ℕ → ℕ) (v : ℕ → ℤ) (ho : ℤ) (o : ℕ) (r : Loading) : Type 0 where
   pub lane : r .lane ≡ o
   pub small : r .set < 2 ^ n

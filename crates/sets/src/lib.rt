@@ -43,7 +43,7 @@ pub fn loaded(set: u32, lane: usize) -> u32
 
 // ---- ranks
 
-// Whether lane k precedes lane i.
+// Whether lane k precedes lane i: it is better for the question, or as good and further left.
 fn precedes(q: Question, values: [i64; 5], k: usize, i: usize) -> bool
     requires { ⌜ (k < 5) × (i < 5) × Within hnLaneMost (valueAt values k) × Within hnLaneMost (valueAt values i) ⌝ }
     ensures { λ r. ⌜ r ≡ precedesOf q (valueAt values) k i ⌝ }
@@ -215,7 +215,7 @@ fn place(rank: usize, other: usize) -> usize
     rank
 }
 
-// Lane i's factor beside HO in lane o: a lane that gives nothing stays unloaded.
+// Lane i's factor beside HO in lane o, in twentieths: a lane that gives nothing stays unloaded.
 fn factor(q: Question, ranks: [usize; 5], hn: [i64; 5], o: usize, i: usize) -> u32
     requires { ⌜ (o < 5) × (i < 5) × (numberAt ranks i ≤ 5) × Within hnLaneMost (valueAt hn i) ⌝ }
     ensures { λ r. ⌜ (r ≡ factorByRank q (numberAt ranks) (valueAt hn) o i) × (r ≤ 20) ⌝ }

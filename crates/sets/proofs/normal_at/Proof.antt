@@ -1,5 +1,5 @@
 use mathlib.Core.Path.{refl, _∙_, ap₂}
-use Prim.Native.Nat.{ℕ}
+use Prim.Native.Nat.{ℕ, _*_}
 use lib.Count.{ones}
 use lib.Dec.{lit<}
 use lib.IntN.{ℤ, _*ℤ_}
@@ -9,6 +9,7 @@ use Rattle.exact.proofs.Held.{Kept, known, got, times, times! }
 use Rattle.exact.proofs.Ranges.{count-cong}
 use Rattle.model.specs.Lanes.{reduction}
 use Rattle.model.proofs.Sets.{ones-count}
+use Rattle.magnitudes.specs.Magnitudes.{hnLaneMost}
 use Rattle.sets.proofs.Filled.{getD-nothing}
 use Rattle.sets.proofs.normal_at.Statement.{statement}
 use Rattle.sets.proofs.normal_at.Tie as tie
@@ -18,7 +19,7 @@ module _ (c : tie.After-struct-told) where
   abbrev r : Kept w64 20 (reduction (ones (c .before .before .before .first-lanes .result .set)))
   r = (_, got w64 (c .before .before .reduction .ok) (c .before .before .reduction .ensures))
 
-  abbrev sum : Kept w64 107500000000000 (c .before .before .before .first-lanes .result .sum)
+  abbrev sum : Kept w64 (5 * hnLaneMost) (c .before .before .before .first-lanes .result .sum)
   sum = (_, known w64 (c .before .before .before .first-lanes .ensures .near) (lit< tt))
 
 mul-value : tie.Need-mul-value

@@ -26,6 +26,7 @@ module _ (c : tie.After-struct-told) where
   abbrev rest : Kept w64 (5 * factoredMost) (c .before .before .before .before .beside .result .group .sum)
   rest = (_, known w64 (c .before .before .before .before .beside .ensures .near) (lit< tt))
 
+-- the sum fits with HO at 20, and would at 18
 mul-value : tie.Need-mul-value
 mul-value c = let h = ho (c .before .before .before) .1 in search (times! (lit w64 20 (lit< tt)) h (lit< tt), times! (lit w64 18 (lit< tt)) h (lit< tt))
 
