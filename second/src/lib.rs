@@ -11,6 +11,7 @@ pub mod arrangement;
 pub mod checker;
 pub mod chosen;
 pub mod combination;
+pub mod deck_job;
 pub mod edition;
 pub mod farm;
 pub mod farm_job;

@@ -7,7 +7,7 @@ use second::job::Job;
 use second::lanes::lane_count;
 use second::train::page::{page, truck_line};
 use second::train::{self, Axle, TrainCase, REPORT_BYTES};
-use second::{arch_job, farm_job, job_a, line, report, sampler, solve, store, words};
+use second::{arch_job, deck_job, farm_job, job_a, line, report, sampler, solve, store, words};
 use std::fs;
 use std::io::{self, Read, Write};
 use std::path::Path;
@@ -22,6 +22,8 @@ const USAGE: &str = "usage:
                                    output
   second arch-job                  write the bytes of edition 2's example to
                                    standard output
+  second deck-job                  write the bytes of the example with four lanes
+                                   to standard output
   second train H MODE LOAD@AT.. < LINE
                                    print the rating of a train on a line's
                                    section, or the refusal
@@ -82,6 +84,7 @@ fn run(arguments: &[&str]) -> Result<(), Failure> {
         ["job-a"] => write_out(&job_a::job_a().bytes()),
         ["farm-job"] => write_out(&farm_job::farm_job().bytes()),
         ["arch-job"] => write_out(&arch_job::arch_job().bytes()),
+        ["deck-job"] => write_out(&deck_job::deck_job().bytes()),
         ["train", h, mode, axles @ ..] => train(number(h)?, number(mode)?, axles),
         ["truck-line"] => write_out(&line::section_bytes(&truck_line())),
         ["generate", stream, seed, count, directory] => generate(

@@ -112,6 +112,26 @@ fn the_arch_job_prints_its_lines() {
     prints(&beat, "not beaten in 500 tries\n");
 }
 
+const DECK_JOB_LINES: &str = "\
+normal greatest 190026758 least -50683322
+overload greatest 311329534 least -85423988
+service greatest 498811123300 row 1 least 129802515300 row 1
+ultimate greatest 757724301000 row 2 least 109734018000 row 2
+";
+
+/// The figures are worked out in deck_job.rs. 10 + 40 + 41 + 4 + 8 + 12 = 115 words are
+/// due.
+#[test]
+fn the_deck_job_prints_its_lines() {
+    let output = second(&["deck-job"], Stdio::null());
+    assert_eq!(output.status.code(), Some(0));
+    let job = output.stdout;
+    prints(&second_on("deck-job", &job), DECK_JOB_LINES);
+    prints(&second_on("deck-header", &job[..40]), "refused 3 at 115\n");
+    let beat = command_on(&["beat", "1", "500"], "deck-job-beat", &job);
+    prints(&beat, "not beaten in 500 tries\n");
+}
+
 #[test]
 fn job_a_prints_its_four_lines() {
     prints(&second_on("job-a", &job_a()), JOB_A_LINES);
@@ -323,6 +343,7 @@ fn unknown_arguments_are_a_usage_error() {
         &["generate", "4294967300", "1", "1", "."],
         &["farm-job", "more"],
         &["arch-job", "more"],
+        &["deck-job", "more"],
         &["store"],
         &["store", "0", "1700", "."],
         &["generate", "1", "18446744073709551615", "1", "."],

@@ -7,6 +7,7 @@ use common::{level_job, pieces, two_lane_job};
 use second::account::{Account, State};
 use second::arch_job::arch_job;
 use second::combination::{Combination, Part};
+use second::deck_job::deck_job;
 use second::edition::Edition;
 use second::farm_job::farm_job;
 use second::generator::{sound_job, Stream};
@@ -71,7 +72,8 @@ fn draws_reach_every_assignment() {
 #[test]
 fn right_reports_are_not_beaten() {
     let level = level_job(2000, 50, vec![1000; 41]);
-    for job in [job_a(), two_lane_job(), level, farm_job(), arch_job()] {
+    let examples = [job_a(), farm_job(), arch_job(), deck_job()];
+    for job in examples.into_iter().chain([two_lane_job(), level]) {
         assert_eq!(first_beating(&job, &account_of(&job), 1, 4000), None);
     }
     for stream in Stream::ALL {
@@ -99,7 +101,7 @@ fn values_short_by_1_are_beaten() {
     ];
     let sound_jobs =
         (0..120).map(|seed| sound_job(&mut Rng::new(seed), STREAMS[seed as usize % 5]));
-    let jobs = sound_jobs.chain([job_a(), two_lane_job(), farm_job(), arch_job()]);
+    let jobs = sound_jobs.chain([job_a(), two_lane_job(), farm_job(), arch_job(), deck_job()]);
     for (job_number, job) in jobs.enumerate() {
         let account = account_of(&job);
         for (number, change) in changes.iter().enumerate() {
