@@ -104,7 +104,7 @@ for example in host truck; do
     "target/c/other/$example" "${arguments[@]}"
 done
 
-for job in farm arch; do
+for job in farm arch deck; do
   step "the page of the $job job" page "examples/$job-job.expected" target/c/host "examples/$job-job.bin"
 done
 step 'compiling examples/arch.c' compile examples/arch.c target/c/arch
@@ -171,7 +171,7 @@ for compiler in 'gcc -std=c99' 'g++ -x c++ -std=c++98' 'g++ -x c++ -std=c++20'; 
     step "$example by $compiler and pkg-config" outside "$away" "$example" $compiler
     step "the page of $example by $compiler and pkg-config" page "examples/$example.expected" "$away/$example" "${arguments[@]}"
   done
-  for job in farm arch; do
+  for job in farm arch deck; do
     step "the page of the $job job by $compiler and pkg-config" page "examples/$job-job.expected" "$away/host" "examples/$job-job.bin"
   done
   step "arch by $compiler and pkg-config" outside "$away" arch $compiler
