@@ -110,7 +110,7 @@ pub const OVERLOAD_ELEMENT_TWENTIETHS: i64 = 20;
 
 /// The factor in twentieths of the m-th additional lane beside the HO element, m
 /// from 1 on: that of 3.2.4 for m lanes.
-pub fn additional_factor(m: u32) -> i64 {
+fn additional_factor(m: u32) -> i64 {
     tabulated_factor(m)
 }
 

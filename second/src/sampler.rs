@@ -261,7 +261,7 @@ impl<'a> Sampler<'a> {
             }
         }
         if live == Live::Overload {
-            // In the lanes' order, or in any.
+            // In the order of `hn_lanes`, or in any.
             let mut factors = additional_factors(hn_lanes.len());
             if disturbed {
                 rng.shuffle(&mut factors);

@@ -5,7 +5,7 @@
 
 mod common;
 
-use common::{level_job, small_farm_job, spans_job, two_lane_job};
+use common::{level_job, small_farm_job, spans_job, two_lane_job, with_factor};
 use second::arrangement::{Arrangement, LoadedLane};
 use second::fraction::Fraction;
 use second::job::Job;
@@ -20,11 +20,6 @@ fn lane(element: Element, left_axle: i128, side: Side, centre: i128) -> LoadedLa
         centre,
         factor: 0,
     }
-}
-
-/// The element in an additional lane.
-fn additional(factor: i64, element: LoadedLane) -> LoadedLane {
-    LoadedLane { factor, ..element }
 }
 
 fn arrangement(k: i128, lanes: &[(usize, LoadedLane)]) -> Arrangement {
@@ -146,7 +141,7 @@ fn an_arrangements_effect() {
 /// Overload with HO in lane 2: 20 * (25600 * 500 + 12800 * 1000) = 512000000,
 /// times 1000 * 3 / 800000 = 1920000.
 #[test]
-fn r_is_chosen_by_the_hn_lanes() {
+fn two_lanes_in_normal_and_overload() {
     let mut transverse = vec![0; 13];
     (transverse[3], transverse[9]) = (1000, 500);
     let job = level_job(600, 50, transverse);
@@ -160,7 +155,7 @@ fn r_is_chosen_by_the_hn_lanes() {
     );
     let overload = arrangement(
         1,
-        &[(0, additional(20, hn)), (1, standing(Element::Ho, 450))],
+        &[(0, with_factor(&hn, 20)), (1, standing(Element::Ho, 450))],
     );
     assert_eq!(overload.lawful(&job, Live::Overload), Ok(()));
     assert_eq!(
@@ -182,7 +177,7 @@ fn additional_lanes_count_their_factors() {
         let lanes = factors.into_iter().enumerate().map(|(at, factor)| {
             let element = [Element::Hn, Element::Ho][usize::from(at == 2)];
             let standing = lane(element, 0, Side::Left, 400 * at as i128 + 200);
-            (at, additional(factor, standing))
+            (at, with_factor(&standing, factor))
         });
         arrangement(1, &lanes.collect::<Vec<_>>())
     };
@@ -221,7 +216,7 @@ fn normal_has_no_factors() {
     let of = |factors: [i64; 3]| {
         let lanes = factors.into_iter().enumerate().map(|(at, factor)| {
             let standing = lane(Element::Hn, 0, Side::Left, 400 * at as i128 + 200);
-            (at, additional(factor, standing))
+            (at, with_factor(&standing, factor))
         });
         arrangement(1, &lanes.collect::<Vec<_>>())
     };
@@ -257,7 +252,7 @@ fn unlawful_arrangements_are_told() {
         assert_eq!(lawful(Normal, 3, &[(1, hn(centre + 1080))]), Ok(()));
     }
     assert_eq!(lawful(Normal, 3, &[(0, loading(&[0..5, 5..12]))]), Ok(()));
-    let first = additional(20, hn(1530));
+    let first = with_factor(&hn(1530), 20);
     assert_eq!(lawful(Overload, 3, &[(0, ho(450)), (1, first)]), Ok(()));
     let unlawful = [
         lawful(Normal, 0, &[]),

@@ -336,46 +336,41 @@ fn additional_lanes(call: &Call) -> Vec<usize> {
 #[test]
 fn wrong_factors_are_refused() {
     for (call, of) in calls_with_additional_lanes() {
-        let additional = additional_lanes(&call);
-        let refuses = |reason, change: &dyn Fn(&mut Traffic)| {
-            refuses_placement(&call, of, reason, change);
-        };
-        for &lane in &additional {
-            let right = call.answer.account.overload_greatest.lanes[lane].factor;
-            let wrong = [
-                0,
-                10,
-                11,
-                12,
-                14,
-                16,
-                18,
-                20,
-                21,
-                -right,
-                i64::MIN,
-                i64::MAX,
-            ];
-            for factor in wrong.into_iter().filter(|&factor| factor != right) {
-                refuses("additional lanes have factor", &|traffic| {
-                    traffic.lanes[lane].factor = factor
-                });
-            }
+        for lane in additional_lanes(&call) {
+            refuses_another_factor(&call, of, lane);
         }
-        // HO as the first additional lane.
-        refuses("additional lanes have factor", &|traffic| {
-            for (&lane, factor) in additional.iter().zip([18, 16, 14, 12]) {
+        refuses_factors_of_other_readings(&call, of);
+    }
+}
+
+/// A factor that is not its lane's own is refused.
+#[track_caller]
+fn refuses_another_factor(call: &Call, of: Overload, lane: usize) {
+    let right = call.answer.account.overload_greatest.lanes[lane].factor;
+    let tried = [0, 10, 11, 12, 14, 16, 18, 20, 21].into_iter();
+    let tried = tried.chain([-right, i64::MIN, i64::MAX]);
+    for factor in tried.filter(|&factor| factor != right) {
+        refuses_placement(call, of, "additional lanes have factor", |traffic| {
+            traffic.lanes[lane].factor = factor
+        });
+    }
+}
+
+/// The factors with HO as the first additional lane are refused, and so is the r of
+/// their number for them all, which is right for one lane alone.
+#[track_caller]
+fn refuses_factors_of_other_readings(call: &Call, of: Overload) {
+    let additional = additional_lanes(call);
+    let mut readings = vec![[18, 16, 14, 12]];
+    if additional.len() > 1 {
+        readings.push([[20, 18, 16, 14][additional.len() - 1]; 4]);
+    }
+    for factors in readings {
+        refuses_placement(call, of, "additional lanes have factor", |traffic| {
+            for (&lane, factor) in additional.iter().zip(factors) {
                 traffic.lanes[lane].factor = factor;
             }
         });
-        if additional.len() > 1 {
-            // The r of their number.
-            refuses("additional lanes have factor", &|traffic| {
-                for &lane in &additional {
-                    traffic.lanes[lane].factor = [20, 18, 16, 14][additional.len() - 1];
-                }
-            });
-        }
     }
 }
 
@@ -453,52 +448,61 @@ fn factors_that_do_not_give_the_value_are_refused() {
 #[test]
 fn equally_good_factors_are_free() {
     let call = Call::of(&lanes_job(Edition::Two, &[0, 800, 700, 700, 0]));
-    let loaded = |lane: usize, factor| Lane {
-        entry: 1,
-        centre: (400 * lane as i64 + 200) * 5,
-        factor,
-    };
     for of in OVERLOADS {
-        let takes = |change: &dyn Fn(&mut Traffic)| {
-            assert_eq!(call.with(|call| change(of(call))).check(), Ok(()));
-        };
-        takes(&|traffic| {
+        takes_placement(&call, of, |traffic| {
             let lanes = &mut traffic.lanes;
             assert_eq!((lanes[2].factor, lanes[3].factor), (20, 18));
             (lanes[2].factor, lanes[3].factor) = (18, 20);
         });
-        // A lane that gives 0, with the next factor; both, in either order.
-        takes(&|traffic| {
-            traffic.set |= 0b00001;
-            traffic.lanes[0] = loaded(0, 16);
-        });
-        for (first, last) in [(16, 14), (14, 16)] {
-            takes(&|traffic| {
-                traffic.set |= 0b10001;
-                traffic.lanes[0] = loaded(0, first);
-                traffic.lanes[4] = loaded(4, last);
-            });
-        }
-        for (reason, factor) in [
-            ("additional lanes have factor", 0),
-            ("additional lanes have factor", 14),
-            ("additional lanes have factor", 20),
-        ] {
-            refuses_placement(&call, of, reason, |traffic| {
-                traffic.set |= 0b00001;
-                traffic.lanes[0] = loaded(0, factor);
-            });
-        }
-        // It takes another's.
-        refuses_placement(&call, of, "placement's effect", |traffic| {
-            traffic.set |= 0b00001;
-            traffic.lanes[0] = loaded(0, 18);
-            traffic.lanes[3].factor = 16;
-        });
-        refuses_placement(&call, of, "unloaded but has a factor", |traffic| {
-            traffic.lanes[0].factor = 16
+        takes_lanes_that_give_0(&call, of);
+        refuses_wrong_factors_of_lane_1(&call, of);
+    }
+}
+
+/// The call with one of its overload's placements changed is taken.
+#[track_caller]
+fn takes_placement(call: &Call, of: Overload, change: impl Fn(&mut Traffic)) {
+    assert_eq!(call.with(|call| change(of(call))).check(), Ok(()));
+}
+
+/// Loads a lane of that job with HN at this factor.
+fn load(traffic: &mut Traffic, lane: usize, factor: i64) {
+    traffic.set |= 1 << lane;
+    traffic.lanes[lane] = Lane {
+        entry: 1,
+        centre: (400 * lane as i64 + 200) * 5,
+        factor,
+    };
+}
+
+/// One may have the next factor; both may have the next two, in either order.
+#[track_caller]
+fn takes_lanes_that_give_0(call: &Call, of: Overload) {
+    takes_placement(call, of, |traffic| load(traffic, 0, 16));
+    for (first, last) in [(16, 14), (14, 16)] {
+        takes_placement(call, of, |traffic| {
+            load(traffic, 0, first);
+            load(traffic, 4, last);
         });
     }
+}
+
+/// Lane 1 gives 0. Without lane 5 it may have 16 alone, no unlawful factor nor another
+/// lane's; unloaded it has none.
+#[track_caller]
+fn refuses_wrong_factors_of_lane_1(call: &Call, of: Overload) {
+    for factor in [0, 14, 20] {
+        refuses_placement(call, of, "additional lanes have factor", |traffic| {
+            load(traffic, 0, factor)
+        });
+    }
+    refuses_placement(call, of, "placement's effect", |traffic| {
+        load(traffic, 0, 18);
+        traffic.lanes[3].factor = 16;
+    });
+    refuses_placement(call, of, "unloaded but has a factor", |traffic| {
+        traffic.lanes[0].factor = 16
+    });
 }
 
 #[test]

@@ -4,7 +4,7 @@
 mod common;
 
 use common::farm_tables::{FIRST_ULTIMATE_ROW, K, LIVE, ROWS};
-use common::{definition, level_job, pieces, small_farm_job, spans_job};
+use common::{definition, level_job, pieces, small_farm_job, spans_job, with_factor};
 use second::arrangement::{Arrangement, LoadedLane};
 use second::chosen::overload_lanes::lanes_job;
 use second::edition::Edition;
@@ -54,13 +54,6 @@ fn every_element(
 fn as_ho(element: &LoadedLane) -> LoadedLane {
     LoadedLane {
         element: Element::Ho,
-        ..element.clone()
-    }
-}
-
-fn as_additional(element: &LoadedLane, factor: i64) -> LoadedLane {
-    LoadedLane {
-        factor,
         ..element.clone()
     }
 }
@@ -196,14 +189,8 @@ fn two_lanes() {
             overload.take(&job, &pair(Some(as_ho(one)), None));
             for other in &right {
                 normal.take(&job, &pair(Some(one.clone()), Some(other.clone())));
-                overload.take(
-                    &job,
-                    &pair(Some(as_ho(one)), Some(as_additional(other, 20))),
-                );
-                overload.take(
-                    &job,
-                    &pair(Some(as_additional(one, 20)), Some(as_ho(other))),
-                );
+                overload.take(&job, &pair(Some(as_ho(one)), Some(with_factor(other, 20))));
+                overload.take(&job, &pair(Some(with_factor(one, 20)), Some(as_ho(other))));
             }
         }
         for other in &right {
@@ -238,8 +225,8 @@ fn element(lane: usize, raises: bool) -> LoadedLane {
 fn every_choice(lane: usize, factors: &[i64]) -> Vec<Option<LoadedLane>> {
     let mut choices = vec![None];
     for hn in [element(lane, true), element(lane, false)] {
-        let ho = [0, 20].map(|factor| as_additional(&as_ho(&hn), factor));
-        let hn = factors.iter().map(|&factor| as_additional(&hn, factor));
+        let ho = [0, 20].map(|factor| with_factor(&as_ho(&hn), factor));
+        let hn = factors.iter().map(|&factor| with_factor(&hn, factor));
         choices.extend(hn.chain(ho).map(Some));
     }
     choices

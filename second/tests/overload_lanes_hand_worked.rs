@@ -36,8 +36,8 @@ fn account(job: &Job) -> Account {
     answer.account
 }
 
-/// The lanes' factors; the HO lane's and an unloaded one's are shown as 0.
-fn factors(traffic: &Traffic) -> [i64; 5] {
+/// The lanes' factors, with `HO` and `NO` for lanes that have none.
+fn marked_factors(traffic: &Traffic) -> [i64; 5] {
     traffic.lanes.map(|lane| match (lane.entry, lane.factor) {
         (0, 0) => NO,
         (3 | 4, 0) => HO,
@@ -52,7 +52,7 @@ type Due = (i64, [i64; 5]);
 #[track_caller]
 fn has_overload(job: &Job, greatest: Due, least: Due) {
     let account = account(job);
-    let shown = |traffic: &Traffic| (traffic.value, factors(traffic));
+    let shown = |traffic: &Traffic| (traffic.value, marked_factors(traffic));
     assert_eq!(shown(&account.overload_greatest), greatest);
     assert_eq!(shown(&account.overload_least), least);
     for traffic in [account.normal_greatest, account.normal_least] {

@@ -3,7 +3,7 @@
 
 mod common;
 
-use common::overload::{effect, InLanes};
+use common::overload::{effect, InLanes, Reading, FACTORS};
 use common::streams::{answer_to, reach_all};
 use second::chosen::overload_lanes;
 use second::generator::{case, Case, Stream};
@@ -46,8 +46,8 @@ impl Lanes {
     }
 
     /// The lanes' sum, each at the factor of its place in this order.
-    fn at(&self, factors: [i128; 4], lanes: &[usize]) -> i128 {
-        let counted = lanes.iter().zip(factors);
+    fn at(&self, lanes: &[usize]) -> i128 {
+        let counted = lanes.iter().zip(FACTORS);
         counted
             .map(|(&lane, factor)| factor * self.own.hn[lane])
             .sum()
@@ -68,11 +68,9 @@ impl Lanes {
 
     /// The right sum of additional lanes.
     fn right(&self, lanes: &[usize]) -> i128 {
-        self.at(FACTORS, &self.sorted(lanes))
+        self.own.additional(Reading::FurthestFirst, lanes)
     }
 }
-
-const FACTORS: [i128; 4] = [20, 18, 16, 14];
 
 fn sorted_by(lanes: &[usize], key: impl Fn(usize) -> i128) -> Vec<usize> {
     let mut sorted = lanes.to_vec();
@@ -86,22 +84,16 @@ type Slip = fn(&Lanes) -> i128;
 /// The slips, each with the fewest lanes that show it.
 const SLIPS: [(&str, usize, Slip); 12] = [
     ("by position from the left", 3, |lanes| {
-        lanes.own.overload(anywhere, |set| lanes.at(FACTORS, set))
+        lanes.own.overload_in(Reading::LeftmostFirst)
     }),
     ("the largest to the mildest", 3, |lanes| {
-        let mildest_first = |set: &[usize]| sorted_by(set, |lane| lanes.hn_goes(lane));
-        lanes
-            .own
-            .overload(anywhere, |set| lanes.at(FACTORS, &mildest_first(set)))
+        lanes.own.overload_in(Reading::MildestFirst)
     }),
     ("all at the r of their number", 3, |lanes| {
-        lanes.own.old_overload()
+        lanes.own.overload_in(Reading::ROfTheirNumber)
     }),
     ("HO as the first additional lane", 2, |lanes| {
-        let factors = [18, 16, 14, 12];
-        lanes
-            .own
-            .overload(anywhere, |set| lanes.at(factors, &lanes.sorted(set)))
+        lanes.own.overload_in(Reading::BehindHo)
     }),
     ("a lane left out", 2, |lanes| {
         let not_all = |_: usize, set: &[usize]| set.is_empty() || set.len() + 1 < lanes.count();
@@ -111,7 +103,7 @@ const SLIPS: [(&str, usize, Slip); 12] = [
         let other_first = |set: &[usize]| sorted_by(set, |lane| -lanes.other_hn[lane].abs());
         lanes
             .own
-            .overload(anywhere, |set| lanes.at(FACTORS, &other_first(set)))
+            .overload(anywhere, |set| lanes.at(&other_first(set)))
     }),
     ("HO in the furthest HN lane", 2, |lanes| {
         let furthest = lanes.furthest_hn_lane();
@@ -152,7 +144,7 @@ const SLIPS: [(&str, usize, Slip); 12] = [
         lanes.own.overload(anywhere, |set| {
             let mut sorted = lanes.sorted(set);
             sorted.dedup_by_key(|lane| lanes.hn_goes(*lane));
-            lanes.at(FACTORS, &sorted)
+            lanes.at(&sorted)
         })
     }),
 ];
@@ -172,7 +164,7 @@ fn shown(case: &Case) -> Vec<String> {
     for question in Question::BOTH {
         let lanes = Lanes::of(&job, question);
         let due = answer.account.traffic(Live::Overload, question).value;
-        let right = lanes.own.overload(anywhere, |set| lanes.right(set));
+        let right = lanes.own.overload_in(Reading::FurthestFirst);
         assert_eq!(effect(&job, question, right), due);
         for (name, _, slip) in SLIPS {
             if effect(&job, question, slip(&lanes)) != due {

@@ -3,6 +3,7 @@
 
 mod common;
 
+use common::overload::{additional_sum, Reading};
 use common::{level_job, pieces, two_lane_job};
 use second::account::{Account, State};
 use second::arch_job::arch_job;
@@ -358,7 +359,8 @@ fn sham_value(job: &Job, sham: Sham, live: Live, question: Question) -> i64 {
                         _ => 20,
                     };
                     let additional = lanes_of(others).map(|lane| hn[lane]).collect();
-                    i128::from(ho_r) * ho[lane] + sham_additional(sham, question, additional)
+                    i128::from(ho_r) * ho[lane]
+                        + additional_sum(sham_reading(sham), question, additional)
                 }),
             )
         }
@@ -376,30 +378,14 @@ fn sham_value(job: &Job, sham: Sham, live: Live, question: Question) -> i64 {
     i64::try_from(effect).unwrap()
 }
 
-/// The additional lanes' sum in twentieths, their effects given from the left: the
-/// further a lane goes, the larger its factor.
-fn sham_additional(sham: Sham, question: Question, mut effects: Vec<i128>) -> i128 {
-    if sham == Sham::TakesROfTheAdditionalLanes {
-        let set = (1 << effects.len()) - 1;
-        return i128::from(reduction(set)) * effects.iter().sum::<i128>();
+fn sham_reading(sham: Sham) -> Reading {
+    match sham {
+        Sham::CountsTheHoLaneAsTheFirst => Reading::BehindHo,
+        Sham::TakesROfTheAdditionalLanes => Reading::ROfTheirNumber,
+        Sham::GivesFactorsByPosition => Reading::LeftmostFirst,
+        Sham::GivesTheMildestTheLargest => Reading::MildestFirst,
+        _ => Reading::FurthestFirst,
     }
-    if sham != Sham::GivesFactorsByPosition {
-        effects.sort_unstable();
-    }
-    let furthest_last = match sham {
-        Sham::GivesFactorsByPosition => false,
-        Sham::GivesTheMildestTheLargest => question == Question::Least,
-        _ => question == Question::Greatest,
-    };
-    if furthest_last {
-        effects.reverse();
-    }
-    let factors = match sham {
-        Sham::CountsTheHoLaneAsTheFirst => [18, 16, 14, 12],
-        _ => [20, 18, 16, 14],
-    };
-    let counted = effects.iter().zip(factors);
-    counted.map(|(effect, factor)| effect * factor).sum()
 }
 
 fn sham_state(job: &Job, account: &Account, sham: Sham, state: i64, question: Question) -> i64 {

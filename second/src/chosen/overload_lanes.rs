@@ -53,7 +53,7 @@ const ORDINATES: [&[i64]; 28] = [
     &[1, 3, -7, 11, 13],
 ];
 
-/// The dynamic factor of kind 1 that the last two of these have, too.
+/// The dynamic factor of kind 1 that the last two of `ORDINATES` have, too.
 pub const FRACTIONAL: i64 = 1001;
 
 /// Spans by sign whose factors are 1299 and 1064, either way.

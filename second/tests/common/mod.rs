@@ -11,6 +11,7 @@ pub mod refusals;
 pub mod streams;
 pub mod train_definition;
 
+use second::arrangement::LoadedLane;
 use second::edition::Edition;
 use second::job::{
     Effect, Job, Piece, Record, Row, ALWAYS_PRESENT, LIVE_NONE, LIVE_NORMAL, LIVE_OVERLOAD,
@@ -166,5 +167,13 @@ pub fn small_farm_job(values: [i64; 11]) -> Job {
         effects: marked.collect(),
         rows: vec![],
         ..level_job(300, 50, vec![1000; 7])
+    }
+}
+
+/// The element with this factor, as in an additional lane.
+pub fn with_factor(element: &LoadedLane, factor: i64) -> LoadedLane {
+    LoadedLane {
+        factor,
+        ..element.clone()
     }
 }

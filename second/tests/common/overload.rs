@@ -5,6 +5,42 @@ use second::lanes::lane_count;
 use second::loads::{Element, Question};
 use second::traffic::{furthest_in_lane, LongitudinalEffects};
 
+/// The factors in twentieths of the first to the fourth additional lane.
+pub const FACTORS: [i128; 4] = [20, 18, 16, 14];
+
+/// What decides the additional lanes' factors.
+#[derive(Clone, Copy)]
+pub enum Reading {
+    /// The further a lane goes, the larger its factor: 02 "Additional overload lanes".
+    FurthestFirst,
+    MildestFirst,
+    LeftmostFirst,
+    /// The furthest first, but the first factor is HO's.
+    BehindHo,
+    /// All at the r of their number: 01, before 02.
+    ROfTheirNumber,
+}
+
+/// The additional lanes' sum in twentieths, their effects given from the left.
+pub fn additional_sum(reading: Reading, question: Question, mut effects: Vec<i128>) -> i128 {
+    let furthest_first = |one: &i128, other: &i128| match question {
+        Question::Greatest => other.cmp(one),
+        Question::Least => one.cmp(other),
+    };
+    match reading {
+        Reading::LeftmostFirst => {}
+        Reading::MildestFirst => effects.sort_by(|one, other| furthest_first(other, one)),
+        _ => effects.sort_by(furthest_first),
+    }
+    let factors = match reading {
+        Reading::BehindHo => [18, 16, 14, 12],
+        Reading::ROfTheirNumber => [[20, 20, 18, 16, 14][effects.len()]; 4],
+        _ => FACTORS,
+    };
+    let counted = effects.iter().zip(factors);
+    counted.map(|(effect, factor)| factor * effect).sum()
+}
+
 /// What HN and HO give in each lane for a question, at their furthest.
 pub struct InLanes {
     pub question: Question,
@@ -58,16 +94,15 @@ impl InLanes {
         self.furthest(tried.into_iter())
     }
 
-    /// 01's reading, before 02 "Additional overload lanes": all additional lanes at the
-    /// r of their number.
-    pub fn old_overload(&self) -> i128 {
-        self.overload(
-            |_, _| true,
-            |others| {
-                let r = [20, 20, 18, 16, 14][others.len()];
-                r * others.iter().map(|&lane| self.hn[lane]).sum::<i128>()
-            },
-        )
+    /// The sum in twentieths of additional lanes, given from the left.
+    pub fn additional(&self, reading: Reading, lanes: &[usize]) -> i128 {
+        let effects = lanes.iter().map(|&lane| self.hn[lane]);
+        additional_sum(reading, self.question, effects.collect())
+    }
+
+    /// The furthest overload in twentieths over all HO lanes and additional lanes.
+    pub fn overload_in(&self, reading: Reading) -> i128 {
+        self.overload(|_, _| true, |lanes| self.additional(reading, lanes))
     }
 }
 
@@ -84,5 +119,6 @@ pub fn old_overload(job: &Job, question: Question) -> i64 {
     if !job.edition.has_overload() {
         return 0;
     }
-    effect(job, question, InLanes::of(job, question).old_overload())
+    let lanes = InLanes::of(job, question);
+    effect(job, question, lanes.overload_in(Reading::ROfTheirNumber))
 }
