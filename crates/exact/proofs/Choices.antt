@@ -29,15 +29,6 @@ pub all-cong : (n : ℕ) (f g : ℕ → Bool) → ((i : ℕ) → f i ≡ g i) �
 all-cong zero f g h = refl
 all-cong (suc n) f g h = ap₂ _&&_ (all-cong n f g h) (h n)
 
-pub over-cong : (q : Question) (k n : ℕ) (f g : (ℕ → ℕ) → ℤ) → ((c : ℕ → ℕ) → f c ≡ g c) → extremeOver q k n f ≡ extremeOver q k n g
-over-cong q k zero f g h = h (λ i. 0)
-over-cong q k (suc n) f g h = over-cong q k n _ _ (λ c. extreme-cong q k _ _ (λ x l. h (λ i. if eqb i n then x else c i)))
-
--- a bound of all choices bounds their best
-pub over-least : (q : Question) (k n : ℕ) (f : (ℕ → ℕ) → ℤ) (v : ℤ) → ((c : ℕ → ℕ) → NoBetter q (f c) v) → NoBetter q (extremeOver q k n f) v
-over-least q k zero f v h = h (λ i. 0)
-over-least q k (suc n) f v h = over-least q k n _ v (λ c. extreme-least q k _ v (λ x l. h (λ i. if eqb i n then x else c i)))
-
 -- f reads the choices for 0 .. n - 1 only
 abbrev pub Reads : ℕ → ((ℕ → ℕ) → ℤ) → Type 0
 Reads n f = (c d : ℕ → ℕ) → ((i : ℕ) → i < n → c i ≡ d i) → f c ≡ f d
@@ -56,3 +47,12 @@ over-bounds q k (suc n) f reads c h =
 
     with : (i a b x : ℕ) → (¬ (i ≡ n) → a ≡ b) → (if eqb i n then x else a) ≡ (if eqb i n then x else b)
     with i a b x h = by-test (eqb i n) (λ t. eqb i n ≡ t → (if t then x else a) ≡ (if t then x else b)) (λ _ _. refl) (λ e _. h (eqb-false i n e)) refl
+
+-- a bound of all choices bounds their best
+pub over-least : (q : Question) (k n : ℕ) (f : (ℕ → ℕ) → ℤ) (v : ℤ) → ((c : ℕ → ℕ) → NoBetter q (f c) v) → NoBetter q (extremeOver q k n f) v
+over-least q k zero f v h = h (λ i. 0)
+over-least q k (suc n) f v h = over-least q k n _ v (λ c. extreme-least q k _ v (λ x l. h (λ i. if eqb i n then x else c i)))
+
+pub over-cong : (q : Question) (k n : ℕ) (f g : (ℕ → ℕ) → ℤ) → ((c : ℕ → ℕ) → f c ≡ g c) → extremeOver q k n f ≡ extremeOver q k n g
+over-cong q k zero f g h = h (λ i. 0)
+over-cong q k (suc n) f g h = over-cong q k n _ _ (λ c. extreme-cong q k _ _ (λ x l. h (λ i. if eqb i n then x else c i)))

@@ -1,16 +1,19 @@
--- Factors of additional lanes: an assignment by its levels, and that none beats overload's best.
+-- Factors of additional lanes: on few lanes by computation, an assignment by its levels, and that none beats overload's best.
 use mathlib.Core.Path.{_≡_, refl, sym, _∙_, ap, ap₂, subst}
 use mathlib.Core.Bool.{Bool, true, false, not, _&&_}
-use Prim.Native.Nat.{ℕ, zero, suc, _+_, _-_, _*_, _≤_, _<_}
+use mathlib.Core.List.{List, [], _∷_, map}
+use Prim.Native.Nat.{ℕ, zero, suc, _+_, _-_, _≤_, _<_}
 use native.Mathlib.Decide.{decLe}
 use native.Mathlib.Omega.{arith}
-use lib.IntN.{ℤ, pos, _+ℤ_, _*ℤ_}
+use lib.IntN.{ℤ, pos, negsuc, _+ℤ_, _*ℤ_}
+use lib.ListN.{getD}
 use lib.Dec.{ltb, eqb}
 use borrow.Author.Tests.{ltb-true, ltb-false, lt-ltb, le-ltb, eqb-true, eqb-false, eq-eqb, ne-eqb}
-use Rattle.exact.specs.Choice.{if_then_else_}
+use Rattle.exact.specs.Choice.{if_then_else_, minℤ, maxℤ}
 use Rattle.exact.specs.Questions.{NoBetter, extremeOver}
-use Rattle.exact.specs.Ranges.{countTo}
+use Rattle.exact.specs.Ranges.{countTo, listOf}
 use Rattle.exact.specs.declared.Question.{Question}
+use Rattle.exact.specs.declared.Question.the-variants.{Greatest, Least}
 use Rattle.exact.proofs.Bridge.{by-test}
 use Rattle.exact.proofs.Choices.{all-true, all-intro, all-cong, over-bounds}
 use Rattle.exact.proofs.Counting.{one, and-intro, count-all, count-but, count-some, count-pos}
@@ -18,9 +21,44 @@ use Rattle.exact.proofs.Exact.{_⊗_, lit, _≐_, solve}
 use Rattle.exact.proofs.Extremes.{no-better-trans, extreme-bounds}
 use Rattle.exact.proofs.Ranges.{sum-cong, count-cong, count-none}
 use Rattle.exact.proofs.Weights.{count-part, count-false}
-use Rattle.model.specs.Lanes.{additional}
+use Rattle.model.specs.Lanes.{twentieths, additional}
 use Rattle.model.proofs.Lanes.{twentieths-range, twentieths-falls}
 use Rattle.model.specs.Traffic.{additionalLanes, assigned, overloadSum, factorChoice, besideSum, bestOverload}
+
+-- ---- by computation
+-- lane i's value of a list
+abbrev valueOf : List ℤ → ℕ → ℤ
+valueOf values i = getD values i (pos 0)
+
+-- the factors of four additional lanes
+additional-lanes : listOf 4 additional ≡ 20 ∷ 18 ∷ 16 ∷ 14 ∷ []
+unfolding twentieths
+additional-lanes = refl
+
+-- these factors of five lanes are an assignment, and those are none: 20 twice, 16 for the second, 18 for the only one, one above 20, one between
+assignments : map (λ (factors : List ℕ). assigned 5 (λ i. getD factors i 0)) ((14 ∷ 20 ∷ 0 ∷ 16 ∷ 18 ∷ []) ∷ (0 ∷ 18 ∷ 20 ∷ 0 ∷ 0 ∷ []) ∷ (0 ∷ 0 ∷ 0 ∷ 0 ∷ 0 ∷ []) ∷ []) ≡ true ∷ true ∷ true ∷ []
+unfolding assigned twentieths
+assignments = refl
+
+no-assignments : map (λ (factors : List ℕ). assigned 5 (λ i. getD factors i 0))
+    ((20 ∷ 20 ∷ 0 ∷ 0 ∷ 0 ∷ []) ∷ (20 ∷ 16 ∷ 0 ∷ 0 ∷ 0 ∷ []) ∷ (18 ∷ 0 ∷ 0 ∷ 0 ∷ 0 ∷ []) ∷ (25 ∷ 0 ∷ 0 ∷ 0 ∷ 0 ∷ []) ∷ (20 ∷ 17 ∷ 0 ∷ 0 ∷ 0 ∷ []) ∷ []) ≡ false ∷ false ∷ false ∷ false ∷ false ∷ []
+unfolding assigned twentieths
+no-assignments = refl
+
+-- given each lane's bests: HO in the first lane, the second at 20
+two-lanes : bestOverload Greatest 2 (valueOf (pos 3 ∷ pos 5 ∷ [])) (valueOf (pos 5 ∷ pos 6 ∷ [])) ≡ pos 200
+unfolding bestOverload besideSum assigned overloadSum twentieths maxℤ
+two-lanes = refl
+
+-- HO in the second lane; the third at 20, the first at 18
+three-lanes : bestOverload Greatest 3 (valueOf (pos 3 ∷ pos 5 ∷ pos 4 ∷ [])) (valueOf (pos 4 ∷ pos 9 ∷ pos 5 ∷ [])) ≡ pos 314
+unfolding bestOverload besideSum assigned overloadSum twentieths maxℤ
+three-lanes = refl
+
+-- the same of the least
+three-least : bestOverload Least 3 (valueOf (negsuc 2 ∷ negsuc 4 ∷ negsuc 3 ∷ [])) (valueOf (negsuc 3 ∷ negsuc 8 ∷ negsuc 4 ∷ [])) ≡ negsuc 313
+unfolding bestOverload besideSum assigned overloadSum twentieths minℤ
+three-least = refl
 
 -- ---- the factors
 pub additional-range : (m : ℕ) → (0 < additional m) × (additional m ≤ 20)
