@@ -3,7 +3,7 @@ use mathlib.Core.Path.{_≡_, refl, sym, _∙_, ap, ap₂, subst}
 use mathlib.Core.Bool.{Bool, true, false, false≢true}
 use mathlib.Core.List.{List, _++_}
 use Prim.Native.Nat.{ℕ, zero, _*_, _<_}
-use native.Mathlib.Nat.{mul-pos, mul-le-mul-left}
+use native.Mathlib.Nat.{mul-pos, mul-assoc, mul-left-comm, mul-le-mul-left}
 use native.Mathlib.Decide.{decLe}
 use native.Mathlib.Omega.{arith}
 use lib.IntN.{ℤ, pos, natAbs, _+ℤ_, _*ℤ_}
@@ -18,7 +18,7 @@ use Rattle.exact.proofs.Ranges.{count-cong, length-listOf, getD-listOf}
 use Rattle.exact.proofs.Rounding.{rounded-scale}
 use Rattle.model.specs.Job.{InfluenceLine, Job, Live, noTraffic, normal, overload, HasTraffic}
 use Rattle.model.specs.Line.{Kind, HN, HO, axle, bestPair, patchByte, patchBytes, uniformPart, lineEffect}
-use Rattle.model.specs.Lanes.{bit, lanes, unit, ordinateIn, CentreFits}
+use Rattle.model.specs.Lanes.{bit, lanes, ownLanes, otherLanes, unit, inUnits, ordinateIn, CentreFits}
 use Rattle.model.specs.Traffic.{laneEffect, sumOn, isAdditional, bestSum, effectOf, trafficValue}
 use Rattle.model.specs.Arrangements.{Element, Load, unloaded, element, Arrangement, elementLine, elementEffect, carries, loadEffect, lanesUnder, effectUnder, sumOf, arranged, KindsFit, FactorsFit, Lawful}
 use Rattle.model.specs.Answered.{laneAt, factorAt, positionOf, reportedElement, reportedLoad, reported, reportedEffect, PositionRight, TrafficRight, trafficIn, extremeOf, countedTraffic}
@@ -30,7 +30,7 @@ use Rattle.model.specs.declared.Lane.{Lane}
 use Rattle.model.specs.declared.Placement.{Placement}
 use Rattle.model.specs.declared.Extreme.{Extreme}
 use Rattle.model.specs.declared.Account.{Account}
-use Rattle.model.proofs.Lanes.{unit-pos}
+use Rattle.model.proofs.Lanes.{unit-pos, own-other}
 use Rattle.model.proofs.Signs.{no-traffic}
 use Rattle.model.proofs.Pair.{pair-at}
 use Rattle.model.proofs.Uniform.{loaded-parts-given}
@@ -107,23 +107,25 @@ module _ (q : Question) (job : Job) (patch rest : List ℕ) (a : Account) (bytes
       ∙ solve 4 (λ k u a m. k ⊗ k ⊗ u ⊕ a ⊗ (k ⊗ (k ⊗ m)) ≐ k ⊗ k ⊗ (u ⊕ a ⊗ m)) tt (pos n) (uniformPart line sense) (axle kind) (bestPair line sense)
 
   -- so at a best centre it gives the lane's best
-  pub element-given : (kind : Kind) (sense : Sense) (i centre : ℕ) → BestCentre q job kind sense i centre → elementEffect job i n (reportedElement job patch a kind sense centre) ≡ pos (n * n) *ℤ laneEffect q job kind i
+  pub element-given : (kind : Kind) (sense : Sense) (i centre : ℕ) → BestCentre q job kind sense i centre → elementEffect job i n (reportedElement job patch a kind sense (inUnits job i centre)) ≡ pos (n * n) *ℤ laneEffect q job kind i
   unfolding elementEffect
   element-given kind sense i centre at =
-      let t = ordinateIn job i n centre in
-      ap (λ (x : ℤ). t *ℤ x) (line-given kind sense centre)
+      let t = ordinateIn job i n (inUnits job i centre) in
+      ap (λ (x : ℤ). t *ℤ x) (line-given kind sense (inUnits job i centre))
       ∙ solve 3 (λ t c l. t ⊗ (c ⊗ l) ≐ c ⊗ (t ⊗ l)) tt t (pos (n * n)) (lineEffect (job .line) kind sense)
       ∙ ap (λ (x : ℤ). pos (n * n) *ℤ x) (at .best)
 
   -- its centre keeps its distance
-  centre-fits : (kind : Kind) (sense : Sense) (i centre : ℕ) → BestCentre q job kind sense i centre → CentreFits job i n centre
-  centre-fits kind sense i centre at = record { from = mul-le-mul-left n (at .low); to = mul-le-mul-left n (at .high) }
+  centre-fits : (kind : Kind) (sense : Sense) (i centre : ℕ) → BestCentre q job kind sense i centre → CentreFits job i n (inUnits job i centre)
+  centre-fits kind sense i centre at =
+      let turn : ownLanes job i * inUnits job i centre ≡ n * centre = mul-left-comm (ownLanes job i) (otherLanes job i) centre ∙ sym (mul-assoc (otherLanes job i) (ownLanes job i) centre) ∙ ap (λ (u : ℕ). u * centre) (own-other job i) in
+      record { from = omega (arith, mul-le-mul-left n (at .low)); to = omega (arith, mul-le-mul-left n (at .high)) }
 
   module _ (p : Placement) (entries : (i : ℕ) → i < lanes job → EntryRight q job i (laneAt p i .entry) (laneAt p i .centre)) where
     -- the reported arrangement carries what the entries say
     carries-entry : (kind : Kind) (i : ℕ) → carries kind (reported job patch a p .load i) ≡ entryIs kind (laneAt p i .entry)
     unfolding reported
-    carries-entry kind i = carried kind job patch a (laneAt p i .entry) (laneAt p i .centre)
+    carries-entry kind i = carried kind job patch a (laneAt p i .entry) (inUnits job i (laneAt p i .centre))
 
     -- it keeps the rules of a live kind that has as many lanes under each kind
     pub reported-lawful : (live : Live) → KindsFit (job .profile) live (placedLanes job HN p) (placedLanes job HO p) → FactorsFit live (lanes job) (λ i. entryIs HN (laneAt p i .entry)) (factorAt p) → Lawful job live n (reported job patch a p)
@@ -141,7 +143,7 @@ module _ (q : Question) (job : Job) (patch rest : List ℕ) (a : Account) (bytes
         fits : (i : ℕ) (x e : Element) → element x ≡ element e → CentreFits job i n (x .centre) → CentreFits job i n (e .centre)
         fits i x e is h = subst (λ (l : Load). elim l as (λ _. Type 0) [ unloaded ↦ ⊥ | element e ↦ CentreFits job i n (e .centre) ]) is h
 
-        go : (i : ℕ) (entry : Entry) (centre : ℕ) → EntryRight q job i entry centre → (e : Element) → reportedLoad job patch a entry centre ≡ element e → CentreFits job i n (e .centre)
+        go : (i : ℕ) (entry : Entry) (centre : ℕ) → EntryRight q job i entry centre → (e : Element) → reportedLoad job patch a entry (inUnits job i centre) ≡ element e → CentreFits job i n (e .centre)
         go i Unloaded centre r e is = absurd (subst (λ (l : Load). elim l as (λ _. Type 0) [ unloaded ↦ Unit {0} | element e ↦ ⊥ ]) is tt)
         go i (Hn sense) centre r e is = fits i _ e is (centre-fits HN sense i centre r)
         go i (Ho sense) centre r e is = fits i _ e is (centre-fits HO sense i centre r)
@@ -157,7 +159,7 @@ module _ (q : Question) (job : Job) (patch rest : List ℕ) (a : Account) (bytes
         same kind i h = ap (λ (t : Bool). if t then laneEffect q job kind i else pos 0) (carries-entry kind i)
 
         go : (kind : Kind) (i : ℕ) (entry : Entry) (centre : ℕ) → EntryRight q job i entry centre → entryIs kind entry ≡ true →
-            loadEffect job i n (reportedLoad job patch a entry centre) ≡ pos (n * n) *ℤ laneEffect q job kind i
+            loadEffect job i n (reportedLoad job patch a entry (inUnits job i centre)) ≡ pos (n * n) *ℤ laneEffect q job kind i
         go kind i Unloaded centre r t = absurd (false≢true t)
         go HN i (Hn sense) centre r t = element-given HN sense i centre r
         go HN i (Ho sense) centre r t = absurd (false≢true t)
@@ -193,7 +195,7 @@ pub shows : {q : Question} {job : Job} {patch : List ℕ} {a : Account} {live : 
 unfolding reported
 shows {q} {job} {patch} {a} {live} {x} r i = elim (decLe (lanes job) i) [
   | yes l ↦ let e = r .idle i (r .onDeck i l) in ap (λ (y : Lane). ltb 0 (y .factor)) e ∙ sym (never-additional live) ∙ sym (ap (λ (y : Lane). isAdditional live (entryIs HN (y .entry))) e)
-  | no l ↦ r .lawful .factors .lanes i (omega arith) ∙ ap (isAdditional live) (carried HN job patch a (laneAt (x .placement) i .entry) (laneAt (x .placement) i .centre))
+  | no l ↦ r .lawful .factors .lanes i (omega arith) ∙ ap (isAdditional live) (carried HN job patch a (laneAt (x .placement) i .entry) (inUnits job i (laneAt (x .placement) i .centre)))
 ]
 
 -- ---- a state

@@ -11,14 +11,14 @@ use Rattle.exact.specs.Questions.{better, NoBetter, extreme, other}
 use Rattle.exact.specs.declared.Question.{Question}
 use Rattle.exact.specs.declared.Question.the-variants.{Greatest, Least}
 use Rattle.exact.proofs.Exact.{total, pos-mono, prod, _⊕_, _⊗_, _⊝_, lit, _≐_, _≼_, _⇒_, solve, linear}
-use Rattle.exact.proofs.Extremes.{no-better-trans, no-better-antisym, no-better-scale, no-better-cancel, better-left, better-right, better-ind, better-least, extreme-bounds, extreme-least, extreme-met}
+use Rattle.exact.proofs.Extremes.{no-better-trans, no-better-antisym, no-better-scale, no-better-cancel, better-left, better-right, better-ind, better-least, extreme-bounds, extreme-least, extreme-met, extreme-cong}
 use Rattle.model.specs.Job.{Carriageway, Job}
 use Rattle.model.specs.Line.{lineEffect}
-use Rattle.model.specs.Lanes.{lanesOf, lowest, highest, transverseAt, bestOrdinate, unit, lowestIn, highestIn, ordinateIn, CentreFits}
+use Rattle.model.specs.Lanes.{lanesOf, lowest, highest, transverseAt, bestOrdinate, deckOf, numberOn, ownLanes, otherLanes, unit, inUnits, lowestIn, highestIn, ordinateIn, CentreFits}
 use Rattle.model.specs.Traffic.{bestInLane, laneEffect}
 use Rattle.model.specs.Arrangements.{Element, elementLine, elementEffect}
 use Rattle.model.specs.declared.Sense.the-variants.{Raising, Lowering}
-use Rattle.model.proofs.Lanes.{lane-count, unit-pos}
+use Rattle.model.proofs.Lanes.{lane-count, own-pos, other-range, own-other}
 use Rattle.model.proofs.LineLimits.{OneSigned}
 use Rattle.model.proofs.Signs.{between-products}
 use Rattle.model.proofs.Uniform.{line-bound}
@@ -170,28 +170,53 @@ module _ (deck : Carriageway) (i : ℕ) (g-pos : zero < deck .g) where
       given : (z : ℤ) → NoBetter q z v → NoBetter q (z *ℤ pos 1) v
       given z h = subst (λ (x : ℤ). NoBetter q x v) (sym (one z)) h
 
+-- ---- a job's lane
+-- its ordinate at a centre in n-ths of a cm of its carriageway, in units
+pub units-ordinate : (job : Job) (i y : ℕ) → zero < deckOf job i .g → ordinateIn job i (unit job) (inUnits job i y) ≡ pos (otherLanes job i) *ℤ transverseAt (deckOf job i) (ownLanes job i) y
+unfolding transverseAt
+units-ordinate job i y g-pos =
+    let deck = deckOf job i in
+    let m = otherLanes job i in
+    let n = ownLanes job i in
+    ap (λ (u : ℕ). at (deck .transverse) u (m * y)) (ap (λ (u : ℕ). u * deck .g) (sym (own-other job i)) ∙ mul-assoc m n (deck .g)) ∙ finer (deck .transverse) (n * deck .g) m y (mul-pos (own-pos job i) g-pos) (other-range job i .0)
+
 -- an element's centre, in k-ths
-lane-centre : (job : Job) (i : ℕ) → zero < job .deck .g → (q : Question) (k centre : ℕ) (L v : ℤ) → zero < k → CentreFits job i k centre →
-    ((y : ℕ) → lowestIn job i ≤ y → y ≤ highestIn job i → NoBetter q (ordinateIn job i (unit job) y *ℤ L) v) → NoBetter q (pos (unit job) *ℤ (ordinateIn job i k centre *ℤ L)) (pos k *ℤ v)
+lane-centre : (job : Job) (i : ℕ) → zero < deckOf job i .g → (q : Question) (k centre : ℕ) (L v : ℤ) → zero < k → CentreFits job i k centre →
+    ((y : ℕ) → lowestIn job i ≤ y → y ≤ highestIn job i → NoBetter q (ordinateIn job i (unit job) (inUnits job i y) *ℤ L) v) → NoBetter q (pos (unit job) *ℤ (ordinateIn job i k centre *ℤ L)) (pos k *ℤ v)
 unfolding transverseAt
 lane-centre job i g-pos q k centre L v k-pos fits known =
     let order : lowestIn job i ≤ highestIn job i = le-of-mul-le-mul-left (omega (arith, fits .from, fits .to)) k-pos in
-    centre-bound q (job .deck .transverse) (job .deck .g) (unit job) k (lowestIn job i) (highestIn job i) centre L v g-pos (unit-pos job) k-pos (fits .from) (fits .to)
-    (known (lowestIn job i) (omega arith) order) (known (highestIn job i) order (omega arith)) (λ c a b. known (unit job * job .deck .g * c) a b)
+    subst (λ (z : ℤ). NoBetter q z (pos k *ℤ v))
+    (solve 4 (λ m n t L. n ⊗ (t ⊗ (m ⊗ L)) ≐ m ⊗ n ⊗ (t ⊗ L)) tt (pos m) (pos n) (ordinateIn job i k centre) L ∙ ap (λ (u : ℕ). pos u *ℤ (ordinateIn job i k centre *ℤ L)) (own-other job i))
+    (centre-bound q (deck .transverse) (deck .g) n k (lowestIn job i) (highestIn job i) centre (pos m *ℤ L) v g-pos (own-pos job i) k-pos (fits .from) (fits .to)
+    (at-own (lowestIn job i) (omega arith) order) (at-own (highestIn job i) order (omega arith)) (λ c a b. at-own (n * deck .g * c) a b))
+  where
+    deck : Carriageway
+    deck = deckOf job i
 
--- either sense's line effect at a centre of the lane, in units, does not beat the lane's best
+    m : ℕ
+    m = otherLanes job i
+
+    n : ℕ
+    n = ownLanes job i
+
+    at-own : (y : ℕ) → lowestIn job i ≤ y → y ≤ highestIn job i → NoBetter q (transverseAt deck n y *ℤ (pos m *ℤ L)) v
+    at-own y a b =
+        subst (λ (z : ℤ). NoBetter q z v) (ap (λ (t : ℤ). t *ℤ L) (units-ordinate job i y g-pos) ∙ solve 3 (λ m t L. m ⊗ t ⊗ L ≐ t ⊗ (m ⊗ L)) tt (pos m) (transverseAt deck n y) L) (known y a b)
+
+-- either sense's line effect at a centre of the lane, in n-ths of a cm, does not beat the lane's best
 pub lane-known : (q : Question) (job : Job) (i : ℕ) (raising lowering : ℤ) (y : ℕ) → lowestIn job i ≤ y → y ≤ highestIn job i →
-    NoBetter q (better q (ordinateIn job i (unit job) y *ℤ raising) (ordinateIn job i (unit job) y *ℤ lowering)) (bestInLane q job i raising lowering)
+    NoBetter q (better q (ordinateIn job i (unit job) (inUnits job i y) *ℤ raising) (ordinateIn job i (unit job) (inUnits job i y) *ℤ lowering)) (bestInLane q job i raising lowering)
 unfolding bestInLane
 lane-known q job i raising lowering y a b =
     let lo = lowestIn job i in
-    let t : ℕ → ℤ = ordinateIn job i (unit job) in
+    let t : ℕ → ℤ = λ y. ordinateIn job i (unit job) (inUnits job i y) in
     let f : ℕ → ℤ = λ y. better q (t y *ℤ raising) (t y *ℤ lowering) in
     let e : lo + (y - lo) ≡ y = omega arith in
     subst (λ (z : ℕ). NoBetter q (f z) (bestInLane q job i raising lowering)) e (extreme-bounds q (highestIn job i - lo) (λ j. f (lo + j)) (y - lo) (omega arith))
 
 -- no element in lane i, for any k, beats the lane's best
-pub lane-bound : (q : Question) (job : Job) (i k : ℕ) (e : Element) → OneSigned (job .line) → zero < job .deck .g → zero < k → CentreFits job i k (e .centre) →
+pub lane-bound : (q : Question) (job : Job) (i k : ℕ) (e : Element) → OneSigned (job .line) → zero < deckOf job i .g → zero < k → CentreFits job i k (e .centre) →
     NoBetter q (pos (unit job) *ℤ elementEffect job i k e) (pos (k * k * k) *ℤ laneEffect q job (e .kind) i)
 unfolding elementEffect laneEffect
 lane-bound q job i k e signed g-pos k-pos fits =
@@ -216,7 +241,7 @@ lane-bound q job i k e signed g-pos k-pos fits =
     best = bestInLane q job i raising lowering
 
     at-y : ℕ → ℤ
-    at-y y = ordinateIn job i n y
+    at-y y = ordinateIn job i n (inUnits job i y)
 
     of : (L : ℤ) → ((y : ℕ) → NoBetter q (at-y y *ℤ L) (better q (at-y y *ℤ raising) (at-y y *ℤ lowering))) → NoBetter q (pos n *ℤ (t *ℤ (pos (k * k) *ℤ L))) (pos (k * k * k) *ℤ best)
     of L one =
@@ -236,10 +261,9 @@ factor-down Greatest c x v p h = linear 3 (λ c x v. lit 0 ≼ (lit 0 ⊝ c) ⊗
 factor-down Least c x v p h = linear 3 (λ c x v. lit 0 ≼ (lit 0 ⊝ c) ⊗ (v ⊝ x) ⇒ v ⊗ c ≼ x ⊗ c) c x v (omega arith) (prod p h)
 
 -- where raising is not below 0 and lowering not above: the raising element at the best ordinate, or the lowering one at the other question's best
-pub bestInLane-split : (q : Question) (job : Job) (i : ℕ) (raising lowering : ℤ) → pos 0 ≤ℤ raising → lowering ≤ℤ pos 0 →
-    bestInLane q job i raising lowering ≡ better q (bestOrdinate q (job .deck) i *ℤ raising) (bestOrdinate (other q) (job .deck) i *ℤ lowering)
-unfolding bestInLane bestOrdinate unit lowestIn highestIn
-bestInLane-split q job i raising lowering up down =
+best-split : (q : Question) (m : ℕ) (t : ℕ → ℤ) (raising lowering : ℤ) → pos 0 ≤ℤ raising → lowering ≤ℤ pos 0 →
+    extreme q m (λ j. better q (t j *ℤ raising) (t j *ℤ lowering)) ≡ better q (extreme q m t *ℤ raising) (extreme (other q) m t *ℤ lowering)
+best-split q m t raising lowering up down =
     no-better-antisym q (extreme q m f) (better q (best *ℤ raising) (least *ℤ lowering))
     (extreme-least q m f _ (λ j l. better-least q (t j *ℤ raising) (t j *ℤ lowering) _
     (no-better-trans q _ _ _ (factor-up q raising (t j) best up (extreme-bounds q m t j l)) (better-left q (best *ℤ raising) (least *ℤ lowering)))
@@ -250,12 +274,6 @@ bestInLane-split q job i raising lowering up down =
     (let at = extreme-met (other q) m t in subst (λ (z : ℤ). NoBetter q (z *ℤ lowering) (extreme q m f)) (at .its)
     (no-better-trans q _ _ _ (better-right q (t (at .who) *ℤ raising) (t (at .who) *ℤ lowering)) (extreme-bounds q m f (at .who) (at .below)))))
   where
-    m : ℕ
-    m = highestIn job i - lowestIn job i
-
-    t : ℕ → ℤ
-    t j = ordinateIn job i (unit job) (lowestIn job i + j)
-
     f : ℕ → ℤ
     f j = better q (t j *ℤ raising) (t j *ℤ lowering)
 
@@ -264,3 +282,20 @@ bestInLane-split q job i raising lowering up down =
 
     least : ℤ
     least = extreme (other q) m t
+
+-- of a lane, with its line effects times the other carriageway's n
+pub bestInLane-split : (q : Question) (job : Job) (i : ℕ) (raising lowering : ℤ) → zero < deckOf job i .g → let m = pos (otherLanes job i) in pos 0 ≤ℤ (m *ℤ raising) → (m *ℤ lowering) ≤ℤ pos 0 →
+    bestInLane q job i raising lowering ≡ better q (bestOrdinate q (deckOf job i) (numberOn job i) *ℤ (m *ℤ raising)) (bestOrdinate (other q) (deckOf job i) (numberOn job i) *ℤ (m *ℤ lowering))
+unfolding bestInLane bestOrdinate lowestIn highestIn
+bestInLane-split q job i raising lowering g-pos up down =
+    extreme-cong q (highestIn job i - lowestIn job i) _ _ (λ j _. ap₂ (better q) (each j raising) (each j lowering))
+    ∙ best-split q (highestIn job i - lowestIn job i) t (pos m *ℤ raising) (pos m *ℤ lowering) up down
+  where
+    m : ℕ
+    m = otherLanes job i
+
+    t : ℕ → ℤ
+    t j = transverseAt (deckOf job i) (ownLanes job i) (lowestIn job i + j)
+
+    each : (j : ℕ) (L : ℤ) → ordinateIn job i (unit job) (inUnits job i (lowestIn job i + j)) *ℤ L ≡ t j *ℤ (pos m *ℤ L)
+    each j L = ap (λ (x : ℤ). x *ℤ L) (units-ordinate job i (lowestIn job i + j) g-pos) ∙ solve 3 (λ m t L. m ⊗ t ⊗ L ≐ t ⊗ (m ⊗ L)) tt (pos m) (t j) L

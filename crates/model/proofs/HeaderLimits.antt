@@ -21,13 +21,13 @@ use Rattle.exact.proofs.Extremes.{by-question}
 use Rattle.exact.proofs.Tests.{leZ-true}
 use Rattle.words.specs.Words.{wordAt, countAt}
 use Rattle.words.specs.Fields.{free, range, _of_, itemFrom, misfit}
-use Rattle.model.specs.Format.{profileOf, headerOf, is, dynamicKinds, spanFits, dynamicFits, leastSpanFits, tableCounts, format, words, sectionOf}
+use Rattle.model.specs.Format.{profileOf, secondWidth, headerOf, is, dynamicKinds, spanFits, dynamicFits, leastSpanFits, tableCounts, format, words, sectionOf}
 use Rattle.model.specs.Job.{Profile, highway, rural}
-use Rattle.model.specs.Decode.{dynamicValue}
+use Rattle.model.specs.Decode.{dynamicValue, decode}
 use Rattle.model.specs.Dynamic.{dynamicFactor}
 use Rattle.model.specs.Refusals.{fault2, widthTest, fault11}
 use Rattle.model.specs.declared.Edition.{Edition}
-use Rattle.model.specs.declared.Edition.the-variants.{First, Second, Fourth}
+use Rattle.model.specs.declared.Edition.the-variants.{First, Second, Third, Fourth}
 use Rattle.model.specs.declared.Part.the-variants.{Head}
 use Rattle.model.proofs.Verdict.{header-long}
 use Rattle.model.proofs.Counts.{Count, wider, between-count, is-number, past-three, OneOf, one-of}
@@ -42,6 +42,11 @@ pub data DynamicRight (kind value : ℕ) : Type 0 where
   culvert : kind ≡ 3 → value ≤ 5000 → DynamicRight kind value
   span : kind ≡ 4 → 1 ≤ value → value ≤ 2000 → DynamicRight kind value
 
+-- one carriageway; or two, of edition 3, the second with a width within its limits
+pub data Carriageways (b : List ℕ) : Type 0 where
+  one : headerOf b .second ≡ 0 → Carriageways b
+  two : headerOf b .edition ≡ Third → 300 ≤ headerOf b .second → headerOf b .second ≤ 2079 → Carriageways b
+
 -- each header word within its limits
 pub record HeaderFits (b : List ℕ) : Type 0 where
   pub length : OneOf (1 ∷ 2 ∷ 5 ∷ 10 ∷ 25 ∷ 50 ∷ []) (headerOf b .h)
@@ -51,13 +56,14 @@ pub record HeaderFits (b : List ℕ) : Type 0 where
   pub spacing : Count 10 50 (wordAt b 3)
   pub wide : Count 300 2079 (wordAt b 4)
   pub dynamic : (q : Question) → DynamicRight (countAt b 5) (dynamicValue b (headerOf b) q)
-  -- kind 4 is edition 2's
-  pub kind4 : countAt b 5 ≡ 4 → headerOf b .edition ≡ Second
+  -- kind 4 is of an edition that has word 10
+  pub kind4 : countAt b 5 ≡ 4 → 10 < words (headerOf b) Head
   pub effects : Count 0 16 (wordAt b 7)
   pub rows : Count 0 32 (wordAt b 8)
   pub records : Count 0 512 (wordAt b 9)
   -- a rural bridge's eleven effects
   pub eleven : profileOf (headerOf b .edition) ≡ rural → countAt b 7 ≡ 11
+  pub carriageways : Carriageways b
 
 not-rural : highway ≡ rural → ⊥
 not-rural e = subst (λ (p : Profile). elim p as (λ _. Type 0) [ highway ↦ Unit {0} | rural ↦ ⊥ ]) e tt
@@ -104,6 +110,7 @@ header-fits b e =
       rows = counts .1;
       records = counts .2;
       eleven = counts .3;
+      carriageways = sides (headerOf b .edition) refl;
     }
   where
     word : (q : ℕ) → q < 10 → wordAt (sectionOf b Head) q ≡ wordAt b q
@@ -131,23 +138,38 @@ header-fits b e =
         go : (e : Edition) → KindFits e → Count 1 4 (wordAt b 5)
         go First c = wider c (omega arith) (omega arith)
         go Second c = c
+        go Third c = c
         go Fourth c = wider c (omega arith) (omega arith)
 
-    -- kind 4 is edition 2's, where word 10 is a span
-    spans : KindFits (headerOf b .edition) → countAt b 5 ≡ 4 → (headerOf b .edition ≡ Second) × Count 1 2000 (wordAt b 10)
+    -- kind 4 is of editions 2 and 3, where word 10 is a span
+    spans : KindFits (headerOf b .edition) → countAt b 5 ≡ 4 → (10 < words (headerOf b) Head) × Count 1 2000 (wordAt b 10)
     spans c k = go (headerOf b .edition) refl c
       where
-        span-word : headerOf b .edition ≡ Second → Count 1 2000 (wordAt b 10)
-        span-word s =
-            let there : 10 < words (headerOf b) Head = rw s (omega arith) in
-            let f : leastSpanFits (wordAt (sectionOf b Head) 5) (wordAt (sectionOf b Head) 10) ≡ true = subst (λ (e : Edition). getD (tableCounts e) 3 free (itemFrom (sectionOf b Head) 0 0) (wordAt (sectionOf b Head) 10) ≡ true) s (admitted 10 there) in
+        LeastFits : Edition → Type 0
+        LeastFits e = getD (tableCounts e) 3 free (itemFrom (sectionOf b Head) 0 0) (wordAt (sectionOf b Head) 10) ≡ true
+
+        span-word : (there : 10 < words (headerOf b) Head) → leastSpanFits (wordAt (sectionOf b Head) 5) (wordAt (sectionOf b Head) 10) ≡ true → Count 1 2000 (wordAt b 10)
+        span-word there f =
             let g : leastSpanFits (pos 4) (wordAt b 10) ≡ true = rw (word 5 (omega arith), head-word b 10 there, c .is, k) at f in
             between-count 1 2000 (wordAt b 10) g
 
-        go : (e : Edition) → headerOf b .edition ≡ e → KindFits e → (headerOf b .edition ≡ Second) × Count 1 2000 (wordAt b 10)
+        go : (e : Edition) → headerOf b .edition ≡ e → KindFits e → (10 < words (headerOf b) Head) × Count 1 2000 (wordAt b 10)
         go First s d = absurd (omega (arith, d .most))
-        go Second s d = (s, span-word s)
+        go Second s d = let there : 10 < words (headerOf b) Head = rw s (omega arith) in (there, span-word there (subst LeastFits s (admitted 10 there)))
+        go Third s d = let there : 10 < words (headerOf b) Head = rw s (omega arith) in (there, span-word there (subst LeastFits s (admitted 10 there)))
         go Fourth s d = absurd (omega (arith, d .most))
+
+    -- the second carriageway's width, word 12 of edition 3
+    sides : (e : Edition) → headerOf b .edition ≡ e → Carriageways b
+    sides First s = one (rw s refl)
+    sides Second s = one (rw s refl)
+    sides Third s =
+        let there : 12 < words (headerOf b) Head = rw s (omega arith) in
+        let f : between (pos 300) (pos 2079) (wordAt (sectionOf b Head) 12) ≡ true = subst (λ (e : Edition). getD (tableCounts e) 5 free (itemFrom (sectionOf b Head) 0 0) (wordAt (sectionOf b Head) 12) ≡ true) s (admitted 12 there) in
+        let c = between-count 300 2079 (wordAt b 12) (rw (head-word b 12 there) at f) in
+        let w : headerOf b .second ≡ countAt b 12 = rw s refl in
+        two s (omega (arith, c .least)) (omega (arith, c .most))
+    sides Fourth s = one (rw s refl)
 
     -- the value for least
     least : KindFits (headerOf b .edition) → DynamicRight (countAt b 5) (countAt b 6) → DynamicRight (countAt b 5) (dynamicValue b (headerOf b) Least)
@@ -171,6 +193,7 @@ header-fits b e =
             Count 0 16 (wordAt b 7) × Count 0 32 (wordAt b 8) × Count 0 512 (wordAt b 9) × (profileOf e ≡ rural → countAt b 7 ≡ 11)
         go First x y z = listed x y z
         go Second x y z = listed x y z
+        go Third x y z = listed x y z
         go Fourth x y z =
             let eleven = count 7 11 11 (omega arith) x in
             (wider eleven (omega arith) (omega arith), wider (count 8 0 0 (omega arith) y) (omega arith) (omega arith), wider (count 9 0 0 (omega arith) z) (omega arith) (omega arith), λ _. omega (arith, eleven .least, eleven .most))
@@ -193,6 +216,17 @@ rural-width b e r = rw (head-word b 4 (early b (omega arith))) at (go (profileOf
         (λ _ t. between-count 370 430 (wordAt s 4) t .most)
         (λ _ t. let c = between-count 300 370 (wordAt s 4) t in omega (arith, c .most))
         (fits (1 of widthTest rural) s e 0 4 (omega arith) (omega arith))
+
+-- and has one carriageway
+pub rural-second : (b : List ℕ) → profileOf (headerOf b .edition) ≡ rural → decode b .second .width ≡ 0
+unfolding decode
+rural-second b = go (headerOf b .edition)
+  where
+    go : (e : Edition) → profileOf e ≡ rural → secondWidth e b ≡ 0
+    go First r = refl
+    go Second r = refl
+    go Third r = absurd (not-rural r)
+    go Fourth r = refl
 
 -- 50 dm is a whole number of pieces
 pub whole-spacing : (h : ℕ) → OneOf (1 ∷ 2 ∷ 5 ∷ 10 ∷ 25 ∷ 50 ∷ []) h → (0 < h) × (50 / h * h ≡ 50)

@@ -27,7 +27,7 @@ use Rattle.model.specs.Job.{Profile, highway, rural, Piece, InfluenceLin
 use Rattle.model.specs.Decode.{decode}
 use Rattle.model.specs.Refusals.{jobVerdict}
 use Rattle.model.specs.Line.{Kind, HN, HO, axle, axleSpacing, ordinate, pair, endSum, patchByte, loadedByte, sought, pieceLoad, uniformPart, station, bestPair, lineEffect}
-use Rattle.model.specs.Lanes.{lanes, unit, sumUnit, lowestIn, highestIn, ordinateIn, reductionFor}
+use Rattle.model.specs.Lanes.{lanes, unit, inUnits, sumUnit, lowestIn, highestIn, ordinateIn, reductionFor}
 use Rattle.model.specs.Traffic.{bestOn, bestInLane, laneEffect, setSum, bestNormal, overloadSum, bestOverload, bestSum, effectOf, trafficValue}
 use Rattle.model.specs.declared.Side.{Side}
 use Rattle.model.specs.declared.Side.the-variants.{Left, Right}
@@ -145,7 +145,7 @@ unfolding laneEffect bestInLane
 lane-zero q job kind i =
     let raising = lineEffect (job .line) kind Raising in
     let lowering = lineEffect (job .line) kind Lowering in
-    let t : ℕ → ℤ = λ j. ordinateIn job i (unit job) (lowestIn job i + j) in
+    let t : ℕ → ℤ = λ j. ordinateIn job i (unit job) (inUnits job i (lowestIn job i + j)) in
     let f : ℕ → ℤ = λ j. better q (t j *ℤ raising) (t j *ℤ lowering) in
     no-better-trans q (pos 0) (f 0) _
     (subst (λ (x : ℤ). NoBetter q x (f 0)) (solve 1 (λ t. t ⊗ lit 0 ≐ lit 0) tt (t 0))
@@ -208,4 +208,4 @@ traffic-zero q job live g =
 
 -- so of an accepted job no greatest traffic value is below 0, and no least above
 pub zero-no-better : (b : List ℕ) → jobVerdict b ≡ none → (q : Question) (live : Live) → NoBetter q (pos 0) (trafficValue q (decode b) live)
-zero-no-better b e q live = traffic-zero q (decode b) live (accepted-spaced b e)
+zero-no-better b e q live = traffic-zero q (decode b) live (accepted-spaced b e .0)

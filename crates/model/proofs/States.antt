@@ -18,6 +18,7 @@ use Rattle.model.specs.Traffic.{trafficValue}
 use Rattle.model.specs.Rows.{share, chainValue, rowValue, MayOmit, bestChain, bestRow, Governs, laterIfBetter, isOf, governing, stateValue}
 use Rattle.model.specs.Arrangements.{Arrangement, arranged, Lawful}
 use Rattle.model.specs.Answered.{RowOf}
+use Rattle.model.proofs.Lanes.{Spaced}
 use Rattle.model.proofs.LineLimits.{OneSigned}
 use Rattle.model.proofs.Unbeaten.{unbeaten}
 
@@ -193,11 +194,11 @@ module _ (q : Question) (job : Job) (limit : Limit) (g : Governs) (is-value : st
       under r a out (pos 0) of among may (subst (λ (x : ℤ). NoBetter q x (better q (pos 0) (pos f *ℤ t))) (solve 1 (λ f. lit 0 ≐ f ⊗ lit 0) tt (pos f)) (better-left q (pos 0) (pos f *ℤ t)))
 
   -- nor with any arrangement of the row's live kind
-  pub unbeaten-laden : OneSigned (job .line) → zero < job .deck .g →
+  pub unbeaten-laden : OneSigned (job .line) → Spaced job →
       (r a : ℕ) (out : ℕ → Bool) (k : ℕ) (w : Arrangement) → RowOf job limit r → a ≤ job .row r .others → MayOmit (job .effect) (job .row r .chain a) out → Lawful job (job .row r .live) k w →
       NoBetter q (rowValue (job .effect) (job .row r) a out (arranged q job (job .row r .live) k w)) (g .value)
-  unbeaten-laden signed g-pos r a out k w of among may law =
+  unbeaten-laden signed spaced r a out k w of among may law =
       let f = job .row r .factor in
       let t = trafficValue q job (job .row r .live) in
       under r a out (arranged q job (job .row r .live) k w) of among may
-      (no-better-trans q _ (pos f *ℤ t) _ (no-better-scale q f _ t (unbeaten q job (job .row r .live) k w signed g-pos law)) (better-right q (pos 0) (pos f *ℤ t)))
+      (no-better-trans q _ (pos f *ℤ t) _ (no-better-scale q f _ t (unbeaten q job (job .row r .live) k w signed spaced law)) (better-right q (pos 0) (pos f *ℤ t)))

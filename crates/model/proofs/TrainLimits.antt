@@ -16,10 +16,11 @@ use Rattle.exact.specs.Choice.{if_then_else_, between}
 use Rattle.exact.proofs.Bridge.{by-test}
 use Rattle.words.specs.Fields.{admits, firstAnswer, misfit}
 use Rattle.words.proofs.Fits.{answer-each, answer-one}
-use Rattle.model.specs.Format.{bytes, pieceLength, pieceCount, lineLayout}
+use Rattle.model.specs.Format.{bytes, pieceLength, pieceCount, lineLayout, ordinateLimit}
 use Rattle.model.specs.Refusals.{unless, signs}
 use Rattle.model.specs.Trains.{axleAt, trainLength, TrainCall, reportSize, argumentsFit, inOrder, axleFits, trainFault, trainTests, trainVerdict}
 use Rattle.model.specs.declared.Axle.{Axle}
+use Rattle.model.specs.declared.Edition.the-variants.{First}
 use Rattle.model.specs.declared.Part.the-variants.{Line}
 use Rattle.model.proofs.Counts.{one-of, between-count}
 use Rattle.model.proofs.HeaderLimits.{whole-spacing}
@@ -147,7 +148,7 @@ fault-place h t {p} = by-test (few t) (λ b. (if b then search-axles h t else so
 -- no number finds a fault
 pub record CallClear (c : TrainCall) (room : ℕ) : Type 0 where
   pub arguments : ArgumentsFit (c .h) (c .pieces) (length (c .section)) room
-  pub ordinates : misfit (lineLayout (c .pieces)) (c .section) ≡ none
+  pub ordinates : misfit (lineLayout (ordinateLimit First) (c .pieces)) (c .section) ≡ none
   pub sided : misfit (signs (c .pieces)) (c .section) ≡ none
   pub train : trainFault (c .h) (c .train) ≡ none
 

@@ -25,7 +25,7 @@ use Rattle.model.specs.Line.{Kind, HN, HO}
 use Rattle.model.specs.Lanes.{lanes, unit, reductionFor}
 use Rattle.model.specs.Traffic.{laneEffect, setSum, bestNormal, overloadSum, bestOverload, sumOn, bestOn, bestSum, effectOf, trafficValue}
 use Rattle.model.specs.Arrangements.{Element, Load, unloaded, element, Arrangement, elementEffect, carries, loadEffect, lanesUnder, effectUnder, sumOf, arranged, KindsFit, Lawful}
-use Rattle.model.proofs.Lanes.{unit-pos}
+use Rattle.model.proofs.Lanes.{unit-pos, Spaced, deck-spaced}
 use Rattle.model.proofs.LineLimits.{OneSigned}
 use Rattle.model.proofs.Accepted.{accepted-signed, accepted-spaced}
 use Rattle.model.proofs.Centre.{lane-bound}
@@ -110,7 +110,7 @@ module _ (q : Question) (job : Job) (k : ℕ) (a : Arrangement) where
       go rural empty = no-better-of-eq q (idle (empty .0) (empty .1))
 
 -- ---- each lane's best bounds what it carries
-module _ (q : Question) (job : Job) (live : Live) (k : ℕ) (a : Arrangement) (signed : OneSigned (job .line)) (g-pos : zero < job .deck .g) (law : Lawful job live k a) where
+module _ (q : Question) (job : Job) (live : Live) (k : ℕ) (a : Arrangement) (signed : OneSigned (job .line)) (spaced : Spaced job) (law : Lawful job live k a) where
   abbrev c : ℕ
   c = k * k * k
 
@@ -119,7 +119,7 @@ module _ (q : Question) (job : Job) (live : Live) (k : ℕ) (a : Arrangement) (s
   lane-load kind i h unloaded e = no-better-of-eq q (solve 2 (λ n c. n ⊗ lit 0 ≐ c ⊗ lit 0) tt (pos (unit job)) (pos c))
   lane-load kind i h (element x) e =
       by-test (carries kind (element x)) (λ t. NoBetter q (pos (unit job) *ℤ (if t then elementEffect job i k x else pos 0)) (pos c *ℤ (if t then laneEffect q job kind i else pos 0)))
-      (λ t. subst (λ (kind : Kind). NoBetter q (pos (unit job) *ℤ elementEffect job i k x) (pos c *ℤ laneEffect q job kind i)) (carries-kind kind x t) (lane-bound q job i k x signed g-pos (law .fine) (law .centres i x h e)))
+      (λ t. subst (λ (kind : Kind). NoBetter q (pos (unit job) *ℤ elementEffect job i k x) (pos c *ℤ laneEffect q job kind i)) (carries-kind kind x t) (lane-bound q job i k x signed (deck-spaced job i spaced) (law .fine) (law .centres i x h e)))
       (λ t. no-better-of-eq q (solve 2 (λ n c. n ⊗ lit 0 ≐ c ⊗ lit 0) tt (pos (unit job)) (pos c)))
 
   -- all lanes: the unit times the sum against k k k times the best
@@ -140,6 +140,7 @@ module _ (q : Question) (job : Job) (live : Live) (k : ℕ) (a : Arrangement) (s
   unbeaten =
       let n = unit job in
       let g = job .deck .g in
+      let g-pos = spaced .0 in
       let y = job .dynamic q in
       let k-pos = law .fine in
       let some : zero < 800000 = omega arith in

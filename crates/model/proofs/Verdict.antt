@@ -14,10 +14,10 @@ use Rattle.model.specs.Format.{EffectUnit, kilonewtons, newtons, headerO
 use Rattle.model.specs.Job.{Profile}
 use Rattle.model.specs.Refusals.{Refusal, Test, _finds_, firstRefusal, jobTests, unless, fault1, fault2, fault3, fault4, fault5, fault6, fault7, fault8, fault9, fault11, refuse, jobVerdict, verdict}
 use Rattle.model.specs.declared.Edition.{Edition}
-use Rattle.model.specs.declared.Edition.the-variants.{First, Second, Fourth}
+use Rattle.model.specs.declared.Edition.the-variants.{First, Second, Third, Fourth}
 use Rattle.model.specs.declared.Header.{Header}
 use Rattle.model.specs.declared.Part.{Part}
-use Rattle.model.specs.declared.Part.the-variants.{Head, Line, Transverse, Effects, Rows, Records}
+use Rattle.model.specs.declared.Part.the-variants.{Head, Line, Transverse, SecondTransverse, Effects, Rows, Records}
 
 refuse-none : (n : ℕ) (f : Option ℕ) (higher : Option Refusal) → refuse n f higher ≡ none → (f ≡ none) × (higher ≡ none)
 refuse-none n none higher e = (refl, e)
@@ -57,16 +57,17 @@ clear b e = let c = all-clear (jobTests b) e in record { c1 = c 0; c2 = c 1; c11
 
 -- ---- 1 and 3: the size
 -- a header has ten words or more
-counts-size : (e : Edition) → (3 ≤ length (tableCounts e)) × (length (tableCounts e) ≤ 5)
+counts-size : (e : Edition) → (3 ≤ length (tableCounts e)) × (length (tableCounts e) ≤ 6)
 counts-size First = omega arith
 counts-size Second = omega arith
+counts-size Third = omega arith
 counts-size Fourth = omega arith
 
 pub header-long : (head : Header) → bytes Head ≤ 4 * words head Head
 header-long head = omega (arith, counts-size (head .edition) .0)
 
--- and at most twelve
-pub header-short : (head : Header) → words head Head ≤ 12
+-- and at most thirteen
+pub header-short : (head : Header) → words head Head ≤ 13
 header-short head = omega (arith, counts-size (head .edition) .1)
 
 -- a header of an edition among n bytes has that edition's words there
@@ -108,6 +109,7 @@ pub part-inside : (b : List ℕ) → length b ≡ 4 * wordsDue (headerOf b) → 
 part-inside b e Head = omega arith
 part-inside b e Line = omega arith
 part-inside b e Transverse = omega arith
+part-inside b e SecondTransverse = omega arith
 part-inside b e Effects = omega arith
 part-inside b e Rows = omega arith
 part-inside b e Records = omega arith

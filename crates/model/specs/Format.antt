@@ -1,11 +1,11 @@
 -- "The job's words" as one table: for an edition, each part of a job with the number of its items and the limits of their words.
 use Prim.Native.Nat.{ℕ, _+_, _-_, _*_, _/_}
 use mathlib.Core.{Bool.Bool, List.List, List.[], List._∷_, Option.Option, Option.none}
-use lib.{IntN.ℤ, IntN.pos, IntN._*ℤ_, Signed.leZ, ListN.length, ListN.take, ListN.drop, Dec.ltb}
+use lib.{IntN.ℤ, IntN.pos, IntN._*ℤ_, Signed.leZ, ListN.length, ListN.take, ListN.drop, Dec.ltb, Dec.eqb}
 use Rattle.exact.specs.Choice.{if_then_else_, between, orElse}
 use Rattle.words.specs.{Words.wordAt, Words.countAt, Fields.Field, Fields.Layout, Fields.free, Fields.range, Fields.within, Fields.wideWithin, Fields.oneOf, Fields.given, Fields.numbered, Fields.both, Fields._of_, Fields.wordsIn, Fields.moved, Fields.misfit}
 use Rattle.model.specs.Job.{Profile, highway, rural}
-use Rattle.model.specs.declared.{Edition.Edition, Edition.the-variants.First, Edition.the-variants.Second, Edition.the-variants.Fourth, Header.Header, Part.Part, Part.the-variants.Head, Part.the-variants.Line, Part.the-variants.Transverse, Part.the-variants.Effects, Part.the-variants.Rows, Part.the-variants.Records}
+use Rattle.model.specs.declared.{Edition.Edition, Edition.the-variants.First, Edition.the-variants.Second, Edition.the-variants.Third, Edition.the-variants.Fourth, Header.Header, Part.Part, Part.the-variants.Head, Part.the-variants.Line, Part.the-variants.Transverse, Part.the-variants.SecondTransverse, Part.the-variants.Effects, Part.the-variants.Rows, Part.the-variants.Records}
 
 -- x is m
 abbrev pub is : ℕ → ℤ → Bool
@@ -15,16 +15,18 @@ is m x = between (pos m) (pos m) x
 abbrev pub editionNumber : Edition → ℕ
 editionNumber First = 1
 editionNumber Second = 2
+editionNumber Third = 3
 editionNumber Fourth = 4
 
 -- the edition that word 0 names; where it names none, refusal 1 says so
 abbrev pub editionOf : ℤ → Edition
-editionOf x = if is (editionNumber Fourth) x then Fourth else (if is (editionNumber Second) x then Second else First)
+editionOf x = if is (editionNumber Fourth) x then Fourth else (if is (editionNumber Third) x then Third else (if is (editionNumber Second) x then Second else First))
 
 -- an edition's loads
 abbrev pub profileOf : Edition → Profile
 profileOf First = highway
 profileOf Second = highway
+profileOf Third = highway
 profileOf Fourth = rural
 
 -- the unit of effects: kN·U, each value a word, or N·U, each value a low and a high half
@@ -35,7 +37,15 @@ pub data EffectUnit : Type 0 where
 abbrev pub effectUnit : Edition → EffectUnit
 effectUnit First = kilonewtons
 effectUnit Second = newtons
+effectUnit Third = newtons
 effectUnit Fourth = kilonewtons
+
+-- the second carriageway's width in cm, word 12 of an edition that has one; 0 for none
+abbrev pub secondWidth : Edition → List ℕ → ℕ
+secondWidth First b = 0
+secondWidth Second b = 0
+secondWidth Third b = countAt b 12
+secondWidth Fourth b = 0
 
 -- the header, read once
 abbrev pub headerOf : List ℕ → Header
@@ -50,6 +60,7 @@ headerOf b = record {
   effects = countAt b 7;  -- E
   rows = countAt b 8;  -- R
   records = countAt b 9;  -- C
+  second = secondWidth (editionOf (wordAt b 0)) b;  -- the second carriageway's width in cm
 }
 
 -- h, a piece's length in dm
@@ -60,17 +71,25 @@ pieceLength = oneOf (1 ∷ 2 ∷ 5 ∷ 10 ∷ 25 ∷ 50 ∷ [])
 abbrev pub pieceCount : ℤ → Field
 pieceCount h = both (range 1 1000) (λ item n. leZ (n *ℤ h) (pos 1000))
 
--- n pieces of a line
-abbrev pub lineLayout : ℕ → Layout
-lineLayout n = n of
-    within 5000  -- left ordinate, in U
-    ∷ within 5000  -- right ordinate
+-- n pieces of a line whose ordinates are from -most to most
+abbrev pub lineLayout : (most n : ℕ) → Layout
+lineLayout most n = n of
+    within most  -- left ordinate, in U
+    ∷ within most  -- right ordinate
     ∷ []
+
+-- the most of a line's ordinates: of one carriageway, and of two
+abbrev pub ordinateLimit : Edition → ℕ
+ordinateLimit First = 5000
+ordinateLimit Second = 5000
+ordinateLimit Third = 500
+ordinateLimit Fourth = 5000
 
 -- the dynamic kinds of an edition: from 1 to this
 abbrev pub dynamicKinds : Edition → ℕ
 dynamicKinds First = 3
 dynamicKinds Second = 4
+dynamicKinds Third = 4
 dynamicKinds Fourth = 3
 
 -- a span L: 1 to 2000 dm
@@ -87,9 +106,19 @@ dynamicFits kind value =
 abbrev pub leastSpanFits : (kind value : ℤ) → Bool
 leastSpanFits kind value = if is 4 kind then spanFits value else is 0 value
 
+-- W, a carriageway's width in cm
+abbrev pub carriagewayWidth : Field
+carriagewayWidth = range 300 2079
+
 -- M: W / g rounded up
 abbrev pub spaces : ℕ → ℕ → ℕ
 spaces w g = (w + g - 1) / g
+
+-- the transverse section of a carriageway W cm wide, M + 1 ordinates; none of no carriageway, whose width is 0
+abbrev pub acrossLayout : (w g : ℕ) → Layout
+acrossLayout w g = (if eqb w 0 then 0 else spaces w g + 1) of
+    within 1000  -- ordinate in thousandths, the first at the left kerb
+    ∷ []
 
 -- the header's words 7, 8 and 9 where the job lists its rows, and those after them
 abbrev pub listedCounts : List Field → List Field
@@ -99,13 +128,21 @@ listedCounts more =
     ∷ range 0 512  -- C
     ∷ more
 
--- the header's words from word 7 on, by edition
-abbrev pub tableCounts : Edition → List Field
-tableCounts First = listedCounts []
-tableCounts Second =
+-- those where effects are in N·U, and the words after 11
+abbrev pub newtonCounts : List Field → List Field
+newtonCounts more =
     listedCounts
     (given 5 (λ kind item value. leastSpanFits kind value)  -- word 10: with kind 4 the span for least, else 0
     ∷ range 0 0  -- word 11: 0
+    ∷ more)
+
+-- the header's words from word 7 on, by edition
+abbrev pub tableCounts : Edition → List Field
+tableCounts First = listedCounts []
+tableCounts Second = newtonCounts []
+tableCounts Third =
+    newtonCounts
+    (carriagewayWidth  -- word 12: W of the second carriageway
     ∷ [])
 tableCounts Fourth =
     range 11 11  -- E: DL, EP, OW, SG, ST, TP, HE, WD, FW, EQ, CN
@@ -138,14 +175,13 @@ format head Head = 1 of
     ∷ pieceLength  -- h
     ∷ given 1 pieceCount  -- N
     ∷ range 10 50  -- g
-    ∷ range 300 2079  -- W
+    ∷ carriagewayWidth  -- W
     ∷ range 1 (dynamicKinds (head .edition))  -- dynamic kind
     ∷ given 5 (λ kind item value. dynamicFits kind value)  -- dynamic value
     ∷ tableCounts (head .edition)  -- E, R, C and what the edition adds
-format head Line = lineLayout (head .pieces)
-format head Transverse = spaces (head .width) (head .spacing) + 1 of
-    within 1000  -- ordinate in thousandths, the first at the left kerb
-    ∷ []
+format head Line = lineLayout (ordinateLimit (head .edition)) (head .pieces)
+format head Transverse = acrossLayout (head .width) (head .spacing)
+format head SecondTransverse = acrossLayout (head .second) (head .spacing)
 format head Effects = head .effects of effectFields (effectUnit (head .edition)) (profileOf (head .edition))
 format head Rows = head .rows of
     range 1 2  -- 1 service, 2 ultimate
@@ -164,15 +200,16 @@ abbrev pub before : Part → List Part
 before Head = []
 before Line = Head ∷ []
 before Transverse = Head ∷ Line ∷ []
-before Effects = Head ∷ Line ∷ Transverse ∷ []
-before Rows = Head ∷ Line ∷ Transverse ∷ Effects ∷ []
-before Records = Head ∷ Line ∷ Transverse ∷ Effects ∷ Rows ∷ []
+before SecondTransverse = Head ∷ Line ∷ Transverse ∷ []
+before Effects = Head ∷ Line ∷ Transverse ∷ SecondTransverse ∷ []
+before Rows = Head ∷ Line ∷ Transverse ∷ SecondTransverse ∷ Effects ∷ []
+before Records = Head ∷ Line ∷ Transverse ∷ SecondTransverse ∷ Effects ∷ Rows ∷ []
 
 -- ---- all else, for any table
 
 -- an edition 1 header without counts
 abbrev noCounts : Header
-noCounts = record { edition = First; h = 0; pieces = 0; spacing = 0; width = 0; kind = 0; value = 0; effects = 0; rows = 0; records = 0 }
+noCounts = record { edition = First; h = 0; pieces = 0; spacing = 0; width = 0; kind = 0; value = 0; effects = 0; rows = 0; records = 0; second = 0 }
 
 -- the words of an item of a part, whatever the counts, in edition 1; others differ in the header and the effects alone
 abbrev pub size : Part → ℕ

@@ -5,16 +5,16 @@ use lib.IntN.{ℤ, pos, _*ℤ_}
 use Rattle.exact.specs.{Choice.if_then_else_, Ranges.countTo, declared.Question.Question}
 use Rattle.model.specs.Job.{Job, Live}
 use Rattle.model.specs.Line.{Kind, HN, HO, lineEffect}
-use Rattle.model.specs.Lanes.{lanes, unit, lowestIn, highestIn, ordinateIn}
+use Rattle.model.specs.Lanes.{lanes, unit, inUnits, lowestIn, highestIn, ordinateIn}
 use Rattle.model.specs.Traffic.{laneEffect, sumOn}
 use Rattle.model.specs.Answered.{laneAt, factorAt}
 use Rattle.model.specs.declared.{Sense.Sense, Entry.Entry, Entry.the-variants.Unloaded, Entry.the-variants.Hn, Entry.the-variants.Ho, Placement.Placement}
 
--- an element in lane i, at a centre in units within the lane's limits, where its sense's line effect gives the lane's best
+-- an element in lane i, at a centre in n-ths of a cm within the lane's limits, where its sense's line effect gives the lane's best
 pub record BestCentre (q : Question) (job : Job) (kind : Kind) (sense : Sense) (i centre : ℕ) : Type 0 where
   pub low : lowestIn job i ≤ centre
   pub high : centre ≤ highestIn job i
-  pub best : ordinateIn job i (unit job) centre *ℤ lineEffect (job .line) kind sense ≡ laneEffect q job kind i
+  pub best : ordinateIn job i (unit job) (inUnits job i centre) *ℤ lineEffect (job .line) kind sense ≡ laneEffect q job kind i
 
 -- a lane's entry is as good as any of its kind
 abbrev pub EntryRight : Question → Job → ℕ → Entry → (centre : ℕ) → Type 0

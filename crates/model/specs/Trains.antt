@@ -5,10 +5,10 @@ use lib.{IntN.ℤ, IntN.pos, IntN.negℤ, IntN._+ℤ_, IntN._-ℤ_, IntN._*ℤ_,
 use Rattle.exact.specs.{Choice.if_then_else_, Ranges.sumTo, Questions.better, Questions.extreme, Questions.NoBetter, declared.Question.Question, declared.Question.the-variants.Greatest, declared.Question.the-variants.Least}
 use Rattle.words.specs.Fields.{admits, firstAnswer, misfit}
 use Rattle.model.specs.Job.{InfluenceLine}
-use Rattle.model.specs.Format.{bytes, pieceLength, pieceCount, lineLayout}
+use Rattle.model.specs.Format.{bytes, pieceLength, pieceCount, lineLayout, ordinateLimit}
 use Rattle.model.specs.Refusals.{Refusal, Test, unless, signs, _finds_, firstRefusal}
 use Rattle.model.specs.Line.{ordinate}
-use Rattle.model.specs.declared.{Part.the-variants.Line, Side.Side, Side.the-variants.Left, Side.the-variants.Right, Axle.Axle, Way.Way, Way.the-variants.AsGiven, Way.the-variants.Turned, Mode.Mode, Mode.the-variants.AllAxles, Mode.the-variants.NoRelief, TrainExtreme.TrainExtreme, Rating.Rating}
+use Rattle.model.specs.declared.{Edition.the-variants.First, Part.the-variants.Line, Side.Side, Side.the-variants.Left, Side.the-variants.Right, Axle.Axle, Way.Way, Way.the-variants.AsGiven, Way.the-variants.Turned, Mode.Mode, Mode.the-variants.AllAxles, Mode.the-variants.NoRelief, TrainExtreme.TrainExtreme, Rating.Rating}
 
 -- ---- a train on a line
 
@@ -115,7 +115,7 @@ trainFault h t = if leb 1 (length t) && leb (length t) 12 then firstAnswer 0 (le
 unfoldable pub trainTests : TrainCall → (room : ℕ) → List Test
 trainTests c room =
     (2 finds unless (argumentsFit (c .h) (c .pieces) (length (c .section)) (c .mode) room) 0)
-    ∷ (4 finds misfit (lineLayout (c .pieces)) (c .section))
+    ∷ (4 finds misfit (lineLayout (ordinateLimit First) (c .pieces)) (c .section))
     ∷ (5 finds misfit (signs (c .pieces)) (c .section))
     ∷ (10 finds trainFault (c .h) (c .train))
     ∷ []
