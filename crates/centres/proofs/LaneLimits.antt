@@ -1,28 +1,35 @@
 -- A lane's limits: they leave room for a centre, and the section has the ordinates for every centre between them.
-use mathlib.Core.Path.{_≡_, sym, _∙_, ap, subst}
-use mathlib.Core.List.{List}
-use Prim.Native.Nat.{ℕ, suc, _+_, _-_, _*_, _/_, _≤_, _<_}
+use mathlib.Core.Path.{_≡_, refl, sym, _∙_, ap, ap₂, subst}
+use mathlib.Core.Bool.{false}
+use mathlib.Core.List.{List, []}
+use Prim.Native.Nat.{ℕ, suc, _+_, _-_, _*_, _/_, _≤_, _<_, max}
 use native.Mathlib.Nat.{mul-comm, mul-pos, mul-le-mul, mul-le-mul-right, mul-sub, mul-div-mul-left, add-div-right, le-div-iff-mul-le}
 use native.Mathlib.Numerals.{add-one}
 use native.Mathlib.Omega.{arith}
-use lib.IntN.{ℤ}
+use lib.IntN.{ℤ, pos}
 use lib.ListN.{getD}
+use lib.Dec.{eqb}
+use borrow.Author.Tests.{eqb-false, lt-ltb, le-ltb}
 use lib.Signed.{_≤ℤ_}
+use Rattle.exact.specs.Choice.{if_then_else_}
 use Rattle.exact.specs.Questions.{NoBetter, extreme}
 use Rattle.exact.specs.declared.Question.{Question}
 use Rattle.exact.specs.declared.Question.the-variants.{Greatest, Least}
 use Rattle.exact.proofs.Extremes.{no-better-antisym, extreme-bounds}
 use Rattle.exact.proofs.Order.{le-trans}
-use Rattle.model.specs.Job.{Carriageway}
+use Rattle.exact.proofs.Bridge.{by-test}
+use Rattle.model.specs.Job.{Carriageway, highway, service, noTraffic, Job}
 use Rattle.model.specs.Decode.{carriageway}
-use Rattle.model.specs.Lanes.{laneCount, lanesOf, lowest, highest, transverseAt, bestOrdinate}
+use Rattle.model.specs.Lanes.{laneCount, lanesOf, lowest, highest, transverseAt, bestOrdinate, secondLanes, lanes, deckOf, numberOn, unit}
 use Rattle.model.specs.Format.{spaces}
 use Rattle.model.proofs.Lanes.{lane-count, lane-room}
 use Rattle.model.proofs.Centre.{ordinate-bound}
 use Rattle.centres.specs.Transverse.{TransverseFits, OrdinatesTo}
-use Rattle.centres.specs.Spans.{CentreRight, SpanRight, noSpan, AcrossRight}
+use Rattle.centres.specs.Spans.{CentreRight, SpanRight, noSpan, SpanFits, AcrossFits, DecksFit, DecksOf, Spanned}
 use Rattle.centres.specs.Candidates.{ordinateAt, BestBefore}
+use Rattle.centres.specs.declared.Across.{Across}
 use Rattle.centres.specs.declared.Centre.{Centre}
+use Rattle.centres.specs.declared.Decks.{Decks}
 use Rattle.centres.specs.declared.Span.{Span}
 use Rattle.exact.proofs.Rounding.{div-mono}
 
@@ -102,19 +109,88 @@ span-order deck i s right =
     subst (λ (x : ℤ). x ≤ℤ s .greatest .ordinate) (sym (right .least .best))
     (subst (λ (x : ℤ). extreme Least m t ≤ℤ x) (sym (right .greatest .best)) (le-trans (extreme-bounds Least m t 0 (omega arith)) (extreme-bounds Greatest m t 0 (omega arith))))
 
-pub across-right : (s : List ℕ) (w n g : ℕ) (spans : List Span) → TransverseFits s w g → n ≡ laneCount w → ((i : ℕ) → i < n → SpanRight (carriageway s w g) i (getD spans i noSpan)) →
-    AcrossRight (carriageway s w g) (record { spans = spans; lanes = n; unit = n * g })
-across-right s w n g spans fits e each =
-    let count = lane-count w in
-    record {
-      fits = record {
-        some = omega arith;
-        few = omega arith;
-        apart = mul-le-mul {n₁ = 1} {n₂ = n} (omega arith) (fits .apart);
-        close = mul-le-mul {n₁ = n} {n₂ = 5} (omega arith) (fits .close);
-        spans = λ i h. record { greatest = each i h .greatest .near; least = each i h .least .near; order = span-order (carriageway s w g) i (getD spans i noSpan) (each i h) };
-      };
-      lanes = e;
-      unit = ap (λ (m : ℕ). m * g) e;
-      each = each;
+pub span-fits : {deck : Carriageway} {i : ℕ} {s : Span} → SpanRight deck i s → SpanFits s
+span-fits {deck} {i} {s} right = record { greatest = right .greatest .near; least = right .least .near; order = span-order deck i s right }
+
+-- ---- the carriageways of a job
+module _ {near far : List ℕ} {d : Decks} (fit : DecksFit near far d) where
+  pub decks-few : (0 < d .lanes) × (d .lanes ≤ 5) × (d .beyond ≤ 5)
+  decks-few =
+      let n = lane-count (d .width) in
+      let m = lane-count (d .second) in
+      let beyond : d .beyond ≤ 5 = rw (fit .beyond) (by-test (eqb (d .second) 0) (λ t. (if t then 0 else laneCount (d .second)) ≤ 5) (λ _. omega arith) (λ _. m .1)) in
+      (omega (arith, fit .lanes), omega (arith, fit .lanes), beyond)
+
+  -- a lane beyond the median has a carriageway there
+  pub second-there : 0 < d .beyond → (0 < d .second) × (d .beyond ≡ laneCount (d .second))
+  second-there h =
+      by-test (eqb (d .second) 0) (λ t. d .beyond ≡ (if t then 0 else laneCount (d .second)) → (0 < d .second) × (d .beyond ≡ laneCount (d .second)))
+      (λ _ e. absurd (omega arith))
+      (λ f e. let other = eqb-false (d .second) 0 f in (omega arith, e)) (fit .beyond)
+
+  module _ {job : Job} (of : DecksOf near far (d .width) (d .second) (d .g) job) where
+    pub first-lanes : d .lanes ≡ lanesOf (job .deck)
+    first-lanes = fit .lanes ∙ ap lanesOf (sym (of .deck))
+
+    pub second-lanes : d .beyond ≡ secondLanes job
+    unfolding secondLanes
+    second-lanes = fit .beyond ∙ ap (λ (c : Carriageway). if eqb (c .width) 0 then 0 else lanesOf c) (sym (of .second))
+
+    pub all-lanes : d .lanes + d .beyond ≡ lanes job
+    unfolding lanes
+    all-lanes = ap₂ _+_ first-lanes second-lanes
+
+    -- lane i is the first one's, or the second one's
+    pub on-first : (i : ℕ) {s : Span} → i < d .lanes → SpanRight (carriageway near (d .width) (d .g)) i s → SpanRight (deckOf job i) (numberOn job i) s
+    unfolding deckOf numberOn
+    on-first i {s} h right = rw (lt-ltb i (lanesOf (job .deck)) (omega (arith, first-lanes))) (subst (λ (c : Carriageway). SpanRight c i s) (sym (of .deck)) right)
+
+    pub on-second : (i : ℕ) {s : Span} → d .lanes ≤ i → SpanRight (carriageway far (d .second) (d .g)) (i - d .lanes) s → SpanRight (deckOf job i) (numberOn job i) s
+    unfolding deckOf numberOn
+    on-second i {s} h right =
+        rw (le-ltb i (lanesOf (job .deck)) (omega (arith, first-lanes))) (subst (λ (n : ℕ). SpanRight (job .second) (i - n) s) first-lanes (subst (λ (c : Carriageway). SpanRight c (i - d .lanes) s) (sym (of .second)) right))
+
+  -- some job with these carriageways
+  abbrev deckJob : Job
+  deckJob = record {
+    profile = highway;
+    line = record { h = 1; pieces = 0; piece = λ i. record { left = pos 0; right = pos 0 } };
+    deck = carriageway near (d .width) (d .g);
+    second = carriageway far (d .second) (d .g);
+    dynamic = λ q. 1000;
+    effect = λ e. record { value = pos 0; optional = false };
+    rows = 0;
+    row = λ r. record { limit = service; live = noTraffic; factor = 0; others = 0; chain = λ a. []; k = λ a. 0 };
+  }
+
+  -- each lane's span, the lanes and the sums' denominator are those of every job with these carriageways
+  module _ (spans : List Span) (each : (job : Job) → DecksOf near far (d .width) (d .second) (d .g) job → (i : ℕ) → i < lanes job → SpanRight (deckOf job i) (numberOn job i) (getD spans i noSpan)) where
+    abbrev across : Across
+    across = record { spans = spans; first = d .lanes; second = d .beyond; lanes = d .lanes + d .beyond; unit = d .lanes * max 1 (d .beyond) * d .g }
+
+    pub across-fits : AcrossFits across
+    across-fits =
+        let few = decks-few in
+        let of : DecksOf near far (d .width) (d .second) (d .g) deckJob = record { deck = refl; second = refl } in
+        let some : max 1 (d .beyond) ≤ 5 = omega arith in
+        let most : d .lanes * max 1 (d .beyond) ≤ 5 * 5 = mul-le-mul (few .1) some in
+        let least : 1 ≤ d .lanes * max 1 (d .beyond) = mul-pos (few .0) (omega arith) in
+        record {
+          some = few .0;
+          few = few .1;
+          secondFew = few .2;
+          both = refl;
+          apart = mul-le-mul {n₁ = 1} {n₂ = d .lanes * max 1 (d .beyond)} least (fit .first .apart);
+          close = mul-le-mul {n₁ = d .lanes * max 1 (d .beyond)} {n₂ = 25} most (fit .first .close);
+          spans = λ i h. span-fits (each deckJob of i (omega (arith, all-lanes of)));
+        }
+
+    pub spanned : (job : Job) → DecksOf near far (d .width) (d .second) (d .g) job → Spanned job across
+    unfolding unit
+    spanned job of = record {
+      first = first-lanes of;
+      second = second-lanes of;
+      lanes = all-lanes of;
+      unit = ap₂ _*_ (ap₂ (λ (n m : ℕ). n * max 1 m) (first-lanes of) (second-lanes of)) (ap (λ (c : Carriageway). c .g) (sym (of .deck)));
+      each = λ i h. each job of i (omega (arith, all-lanes of));
     }

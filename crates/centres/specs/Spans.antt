@@ -1,18 +1,25 @@
 -- What a lane's best centres are.
-use Prim.Native.Nat.{ℕ, _*_, _≤_, _<_}
+use Prim.Native.Nat.{ℕ, _+_, _≤_, _<_}
 use mathlib.Core.Path.{_≡_}
+use mathlib.Core.Logic.{_⊎_}
+use mathlib.Core.List.{List}
 use lib.IntN.{pos}
 use lib.Signed.{_≤ℤ_}
 use lib.ListN.{getD}
+use lib.Dec.{eqb}
 use Rattle.exact.specs.Bounds.{Within}
+use Rattle.exact.specs.Choice.{if_then_else_}
 use Rattle.exact.specs.declared.Question.{Question}
 use Rattle.exact.specs.declared.Question.the-variants.{Greatest, Least}
 use Rattle.model.specs.Job.{Carriageway, Job}
-use Rattle.model.specs.Lanes.{lanesOf, lowest, highest, transverseAt, bestOrdinate, lanes, unit, sumUnit, deckOf}
+use Rattle.model.specs.Decode.{carriageway}
+use Rattle.model.specs.Lanes.{laneCount, lanesOf, lowest, highest, transverseAt, bestOrdinate, secondLanes, lanes, deckOf, numberOn, unit, sumUnit}
 use Rattle.magnitudes.specs.Magnitudes.{transverseMost}
 use Rattle.centres.specs.declared.Centre.{Centre}
 use Rattle.centres.specs.declared.Span.{Span}
 use Rattle.centres.specs.declared.Across.{Across}
+use Rattle.centres.specs.declared.Decks.{Decks}
+use Rattle.centres.specs.Transverse.{TransverseFits}
 
 -- a centre of lane i with the ordinate there, the lane's best for the question
 pub record CentreRight (q : Question) (deck : Carriageway) (i : ℕ) (c : Centre) : Type 0 where
@@ -41,23 +48,36 @@ pub record SpanFits (span : Span) : Type 0 where
   pub least : Within transverseMost (span .least .ordinate)
   pub order : span .least .ordinate ≤ℤ span .greatest .ordinate
 
--- one to five lanes, each span near enough
+-- one to five lanes on the first carriageway, at most five on the second, each span near enough
 pub record AcrossFits (a : Across) : Type 0 where
-  pub some : 0 < a .lanes
-  pub few : a .lanes ≤ 5
+  pub some : 0 < a .first
+  pub few : a .first ≤ 5
+  pub secondFew : a .second ≤ 5
+  pub both : a .lanes ≡ a .first + a .second
   pub apart : 10 ≤ a .unit
-  pub close : a .unit ≤ 250
+  pub close : a .unit ≤ 1250
   pub spans : (i : ℕ) → i < a .lanes → SpanFits (getD (a .spans) i noSpan)
 
--- what lies across is a carriageway's
-pub record AcrossRight (deck : Carriageway) (a : Across) : Type 0 where
-  pub fits : AcrossFits a
-  pub lanes : a .lanes ≡ lanesOf deck
-  pub unit : a .unit ≡ lanesOf deck * deck .g
-  pub each : (i : ℕ) → i < a .lanes → SpanRight deck i (getD (a .spans) i noSpan)
+-- a width within its limits, or 0 for no carriageway
+abbrev pub WidthFits : ℕ → Type 0
+WidthFits w = (w ≡ 0) ⊎ ((300 ≤ w) × (w ≤ 2079))
+
+-- the carriageways' sections have their ordinates, and their lanes are counted
+pub record DecksFit (near far : List ℕ) (d : Decks) : Type 0 where
+  pub first : TransverseFits near (d .width) (d .g)
+  pub lanes : d .lanes ≡ laneCount (d .width)
+  pub second : 0 < d .second → TransverseFits far (d .second) (d .g)
+  pub beyond : d .beyond ≡ (if eqb (d .second) 0 then 0 else laneCount (d .second))
+
+-- a job whose carriageways are those of these sections and widths
+pub record DecksOf (near far : List ℕ) (w v g : ℕ) (job : Job) : Type 0 where
+  pub deck : job .deck ≡ carriageway near w g
+  pub second : job .second ≡ carriageway far v g
 
 -- what lies across is a job's
 pub record Spanned (job : Job) (a : Across) : Type 0 where
+  pub first : a .first ≡ lanesOf (job .deck)
+  pub second : a .second ≡ secondLanes job
   pub lanes : a .lanes ≡ lanes job
   pub unit : a .unit ≡ sumUnit job (unit job)
-  pub each : (i : ℕ) → i < a .lanes → SpanRight (deckOf job i) i (getD (a .spans) i noSpan)
+  pub each : (i : ℕ) → i < a .lanes → SpanRight (deckOf job i) (numberOn job i) (getD (a .spans) i noSpan)

@@ -1,13 +1,16 @@
 // What lies across the line: the number of lanes, the limits of each, and its centres with the greatest and the least transverse ordinate.
 ghost use mathlib.Core.Path.{_≡_};
-ghost use Prim.Native.Nat.{ℕ, _+_, _/_, _≤_, _<_, _^_};
-ghost use lib.ListN.{length, getD};
+ghost use Prim.Native.Nat.{ℕ, _+_, _/_, _≤_, _<_, _^_, max};
+ghost use lib.Dec.{eqb};
+ghost use lib.ListN.{getD};
 ghost use Rattle.exact.specs.Bounds.{Within};
-ghost use Rattle.model.specs.Lanes.{laneCount};
+ghost use Rattle.exact.specs.Choice.{if_then_else_};
+ghost use Rattle.model.specs.Job.{Job};
+ghost use Rattle.model.specs.Lanes.{laneCount, lanes, deckOf, numberOn};
 ghost use Rattle.model.specs.Decode.{carriageway};
 ghost use Rattle.magnitudes.specs.Magnitudes.{transverseMost};
 ghost use Rattle.centres.specs.Transverse.{TransverseFits, OrdinatesTo};
-ghost use Rattle.centres.specs.Spans.{SpanRight, noSpan, AcrossRight};
+ghost use Rattle.centres.specs.Spans.{SpanRight, noSpan, WidthFits, DecksFit, DecksOf, AcrossFits, Spanned};
 ghost use Rattle.centres.specs.Candidates.{ordinateAt, betterCentre, BestBefore};
 use exact::Question;
 
@@ -29,6 +32,17 @@ fn lane_count(width: usize) -> usize
         return 4;
     }
     5
+}
+
+// n for a carriageway so many cm wide, or for none, of 0 cm.
+fn lanes_on(width: usize) -> usize
+    requires { ⌜ WidthFits width ⌝ }
+    ensures { λ r. ⌜ (r ≡ (if eqb width 0 then 0 else laneCount width)) × (r ≤ 5) ⌝ }
+{
+    if width == 0 {
+        return 0;
+    }
+    lane_count(width)
 }
 
 // A centre in n-ths of a cm and the transverse ordinate there, in thousandths times n g; narrow, since all lanes' are handed on together.
@@ -108,44 +122,86 @@ fn lane_span(across: &[u8], width: usize, n: usize, g: usize, i: usize) -> Span
     Span { greatest, least }
 }
 
-// The greatest and least ordinate of each of n lanes, and zeros to five.
-fn spans(across: &[u8], width: usize, n: usize, g: usize) -> [Span; 5]
-    requires { ⌜ TransverseFits (now across) width g ⌝ }
-    requires { ⌜ n ≡ laneCount width ⌝ }
-    ensures { λ r. ⌜ length r ≡ 5 ⌝ }
-    ensures { λ r. ⌜ ((i : ℕ) → i < n → SpanRight (carriageway (now (across .entry)) width g) i (getD r i noSpan)) ⌝ }
-    ensures { λ r. ⌜ ((i : ℕ) → n ≤ i → getD r i noSpan ≡ noSpan) ⌝ }
+// The carriageways: the first one's width in cm and lanes; those of the second one, both 0 where it is not there; and the spacing g of their transverse ordinates.
+struct Decks {
+    width: usize,
+    lanes: usize,
+    second: usize,
+    beyond: usize,
+    g: usize,
+}
+
+// The greatest and least ordinate of lane i, by the transverse sections of both carriageways: the second one's lanes follow the first one's.
+fn span_of(near: &[u8], far: &[u8], d: Decks, i: usize) -> Span
+    requires { ⌜ DecksFit (now near) (now far) d × (i < d .lanes + d .beyond) ⌝ }
+    ensures { λ r. ⌜ ((job : Job) → DecksOf (now (near .entry)) (now (far .entry)) (d .width) (d .second) (d .g) job → SpanRight (deckOf job i) (numberOn job i) r) ⌝ }
+{
+    let n = d.lanes;
+    if i < n {
+        return lane_span(near, d.width, n, d.g, i);
+    }
+    lane_span(far, d.second, d.beyond, d.g, i - n)
+}
+
+// The greatest and least ordinate of each lane, and zeros to ten.
+fn spans(near: &[u8], far: &[u8], d: Decks) -> [Span; 10]
+    requires { ⌜ DecksFit (now near) (now far) d ⌝ }
+    ensures { λ r. ⌜ ((job : Job) → DecksOf (now (near .entry)) (now (far .entry)) (d .width) (d .second) (d .g) job → (i : ℕ) → i < lanes job → SpanRight (deckOf job i) (numberOn job i) (getD r i noSpan)) ⌝ }
+    ensures { λ r. ⌜ ((i : ℕ) → d .lanes + d .beyond ≤ i → getD r i noSpan ≡ noSpan) ⌝ }
 {
     let none = Centre { ordinate: 0, at: 0 };
     let empty = Span {
         greatest: none,
         least: none,
     };
-    let mut all = [empty; 5];
-    for i in 0..n {
-        let s = lane_span(across, width, n, g, i);
+    let mut all = [empty; 10];
+    for i in 0..d.lanes + d.beyond {
+        let s = span_of(near, far, d, i);
         all[i] = s;
     }
     all
 }
 
-// What lies across the line: each lane's span, the number of lanes, and n g, which their ordinates are times.
+// n of the second carriageway as a factor of the unit: 1 where there is none.
+fn at_least_one(n: usize) -> usize
+    requires { ⌜ n ≤ 5 ⌝ }
+    ensures { λ r. ⌜ r ≡ max 1 n ⌝ }
+{
+    if n == 0 {
+        return 1;
+    }
+    n
+}
+
+// What lies across the line: each lane's span, the lanes of each carriageway and of both, and the sums' denominator, which ordinates in units are times.
 pub struct Across {
-    pub spans: [Span; 5],
+    pub spans: [Span; 10],
+    pub first: usize,
+    pub second: usize,
     pub lanes: usize,
     pub unit: usize,
 }
 
-// What lies across a carriageway, by its transverse section, its width and the spacing g.
-pub fn across_of(section: &[u8], width: usize, g: usize) -> Across
-    requires { ⌜ TransverseFits (now section) width g ⌝ }
-    ensures { λ r. ⌜ AcrossRight (carriageway (now (section .entry)) width g) r ⌝ }
+// What lies across, by the transverse sections of both carriageways, their widths (0 for a second one that is not there) and the spacing g.
+pub fn across_of(near: &[u8], far: &[u8], width: usize, second: usize, g: usize) -> Across
+    requires { ⌜ TransverseFits (now near) width g × ((0 < second) → TransverseFits (now far) second g) ⌝ }
+    ensures { λ r. ⌜ AcrossFits r × ((job : Job) → DecksOf (now (near .entry)) (now (far .entry)) width second g job → Spanned job r) ⌝ }
 {
     let n = lane_count(width);
-    let spans = spans(section, width, n, g);
+    let m = lanes_on(second);
+    let d = Decks {
+        width,
+        lanes: n,
+        second,
+        beyond: m,
+        g,
+    };
+    let spans = spans(near, far, d);
     Across {
         spans,
-        lanes: n,
-        unit: n * g,
+        first: n,
+        second: m,
+        lanes: n + m,
+        unit: n * at_least_one(m) * g,
     }
 }

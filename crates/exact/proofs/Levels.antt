@@ -1,6 +1,8 @@
 -- Factors by levels: no factors beat factors in the order of the values, and how far from zero what they count is.
 use mathlib.Core.Path.{_≡_, refl, sym, _∙_, ap, subst}
 use Prim.Native.Nat.{ℕ, zero, suc, _+_, _-_, _*_, _≤_, _<_}
+use native.Mathlib.Nat.{mul-suc}
+use native.Mathlib.Decide.{decLe}
 use native.Mathlib.Omega.{arith}
 use lib.IntN.{ℤ, pos, _+ℤ_, _*ℤ_}
 use lib.Dec.{ltb}
@@ -64,6 +66,18 @@ total (suc n) f = total n f + f n
 pub total-cong : (n : ℕ) (f g : ℕ → ℕ) → ((i : ℕ) → i < n → f i ≡ g i) → total n f ≡ total n g
 total-cong zero f g h = refl
 total-cong (suc n) f g h = let a = total-cong n f g (λ i l. h i (omega arith)) in let b = h n (omega arith) in omega arith
+
+-- fewer are no more, and n of at least c are at least n c
+pub total-fewer : (m n : ℕ) (f : ℕ → ℕ) → m ≤ n → total m f ≤ total n f
+total-fewer m zero f h = let e : m ≡ 0 = omega arith in rw e (omega arith)
+total-fewer m (suc n) f h = elim (decLe m n) [
+  | yes l ↦ let a = total-fewer m n f l in omega arith
+  | no l ↦ let e : m ≡ suc n = omega arith in rw e (omega arith)
+]
+
+pub total-least : (n c : ℕ) (f : ℕ → ℕ) → ((i : ℕ) → i < n → c ≤ f i) → c * n ≤ total n f
+total-least zero c f h = omega arith
+total-least (suc n) c f h = let a = total-least n c f (λ i l. h i (omega arith)) in let b = h n (omega arith) in omega (arith, mul-suc c n)
 
 total-step : (n : ℕ) (f : ℕ → ℕ) (t : ℕ) → total n (λ i. upTo (suc t) (f i)) ≡ total n (λ i. upTo t (f i)) + countTo n (λ i. ltb t (f i))
 total-step zero f t = refl

@@ -1,5 +1,7 @@
 -- How far from zero an accepted job's numbers can be, so that the arithmetic on them fits 64 signed bits.
-use Prim.Native.Nat.{ℕ, _+_, _*_}
+use Prim.Native.Nat.{ℕ, _+_, _*_, _/_}
+use lib.Dec.{ltb}
+use Rattle.exact.specs.Choice.{if_then_else_}
 use Rattle.exact.specs.Parts.{up}
 use Rattle.model.specs.Line.{Kind, HN, HO, axle}
 
@@ -42,7 +44,7 @@ trainMost = 12 * axleMost
 
 -- ---- lanes
 
--- a transverse ordinate times unit and g: 1000 thousandths, 5 lanes, 50 cm
+-- a transverse ordinate times n g: 1000 thousandths, 5 lanes, 50 cm
 abbrev pub transverseMost : ℕ
 transverseMost = 250000
 
@@ -54,15 +56,15 @@ hnLaneMost = 21500000000000
 abbrev pub hoLaneMost : ℕ
 hoLaneMost = 25500000000000
 
+-- a most in each of n lanes: past five lanes there are two carriageways, whose line has a tenth of the ordinates and whose sums have up to 5 times the denominator, so half
+abbrev pub among : (n most : ℕ) → ℕ
+among n most = if ltb n 6 then most else most / 2
+
 -- an HN element's effect at a factor of at most 20
 abbrev pub factoredMost : ℕ
 factoredMost = 20 * hnLaneMost
 
--- a set of HN lanes at its r: r times their number is at most 60
-abbrev pub setMost : ℕ
-setMost = 60 * hnLaneMost
-
--- a live kind's sum: HO at 20, and additional lanes at 20, 18, 16 and 14, which are 68; 3 times the dynamic factor times it is 7.69e18
+-- a live kind's sum: HO at 20, and four additional lanes at 68 together, or nine of half the most at 124; five lanes at their r, or ten, are less. 3 times the dynamic factor times it is 7.69e18
 abbrev pub sumMost : ℕ
 sumMost = 20 * hoLaneMost + 68 * hnLaneMost
 

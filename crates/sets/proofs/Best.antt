@@ -15,7 +15,6 @@ use Rattle.exact.specs.Choice.{if_then_else_}
 use Rattle.exact.specs.Questions.{NoBetter, beats, extreme, extremeOver}
 use Rattle.exact.specs.Ranges.{sumTo, countTo}
 use Rattle.exact.specs.declared.Question.{Question}
-use Rattle.exact.proofs.Bounds.{within-le}
 use Rattle.exact.proofs.Bridge.{by-test}
 use Rattle.exact.proofs.Extremes.{no-better-refl, no-better-trans, no-better-antisym, beats-yes, beats-no, extreme-bounds, extreme-least}
 use Rattle.exact.proofs.Ranges.{sum-cong, sum-one, count-cong}
@@ -24,7 +23,7 @@ use Rattle.model.specs.Job.{highway, normal, overload}
 use Rattle.model.specs.Lanes.{bit, reduction, additional}
 use Rattle.model.specs.Traffic.{setSum, bestNormal, overloadSum, factorChoice, besideSum, bestOverload, bestOn}
 use Rattle.model.proofs.Assignments.{assigned-cong, assigned-none, factored, overload-cong, overload-unbeaten}
-use Rattle.magnitudes.specs.Magnitudes.{hnLaneMost, hoLaneMost, setMost, sumMost}
+use Rattle.magnitudes.specs.Magnitudes.{hnLaneMost, hoLaneMost, among, sumMost}
 use Rattle.sets.specs.Sets.{numberAt, ValuesFit, rank, Ranked, FirstAt, factorByRank, OverloadAt, LoadingRight}
 use Rattle.sets.specs.declared.Loading.{Loading}
 use Rattle.sets.proofs.Factors.{factor-ho, factor-assigned, choices-bound, factor-near}
@@ -73,11 +72,11 @@ held q hn ranks o = factorByRank q (numberAt ranks) hn o
 abbrev pub heldSum : Question → (n : ℕ) → (hn ho : ℕ → ℤ) → (ranks : List ℕ) → (o : ℕ) → ℤ
 heldSum q n hn ho ranks o = overloadSum n hn (ho o) (held q hn ranks o)
 
-module _ (q : Question) (n : ℕ) (hn ho : ℕ → ℤ) (few : n ≤ 5) (fit : ValuesFit q hnLaneMost n hn) (ranks : List ℕ) (ranked : Ranked q n hn ranks) where
+module _ (q : Question) (n : ℕ) (hn ho : ℕ → ℤ) (few : n ≤ 10) (fit : ValuesFit q (among n hnLaneMost) n hn) (ranks : List ℕ) (ranked : Ranked q n hn ranks) where
   -- ---- normal
   -- how far from zero a set's sum is
-  set-near : (set : ℕ) → Within setMost (reducedSum n (bit set) hn)
-  set-near set = let m = count-le n (bit set) in reduced-near (countTo n (bit set)) _ (omega arith) (sum-near hnLaneMost n (bit set) hn (fit .near))
+  set-near : (set : ℕ) → Within sumMost (reducedSum n (bit set) hn)
+  set-near set = reduced-near n (countTo n (bit set)) _ few (count-le n (bit set)) (sum-near (among n hnLaneMost) n (bit set) hn (fit .near))
 
   pub normal-right : (r : Loading) → BestTo q (FirstAt n (numberAt ranks) hn) (firstSum n hn ranks) (n + 1) r → LoadingRight q highway normal n hn ho r
   unfolding bestOn bestNormal
@@ -88,9 +87,9 @@ module _ (q : Question) (n : ℕ) (hn ho : ℕ → ℤ) (few : n ≤ 5) (fit : V
       let value : r .value ≡ reducedSum n (bit (r .set)) hn = a .value ∙ sym (alike (bit (r .set)) _ (a .bits)) in
       record {
         lane = inr (a .lane);
-        kinds = count-cong n _ (λ i. false) (λ i h. ap (eqb i) (a .lane) ∙ ne-eqb i 5 (λ e. omega arith)) ∙ count-false n;
+        kinds = count-cong n _ (λ i. false) (λ i h. ap (eqb i) (a .lane) ∙ ne-eqb i 10 (λ e. omega arith)) ∙ count-false n;
         small = a .small;
-        apart = ap (bit (r .set)) (a .lane) ∙ bit-past n (r .set) 5 (a .small) few;
+        apart = ap (bit (r .set)) (a .lane) ∙ bit-past n (r .set) 10 (a .small) few;
         factors = record { lanes = λ i h. ap (ltb 0) (a .none i); counts = assigned-none n _ (λ i h. a .none i) };
         past = λ i h. a .none i;
         value = value;
@@ -101,7 +100,7 @@ module _ (q : Question) (n : ℕ) (hn ho : ℕ → ℤ) (few : n ≤ 5) (fit : V
             let m = countTo n (bit s) in
             let c = count-le n (bit s) in
             no-better-trans q _ (firstSum n hn ranks m) _ (subst (NoBetter q (f s)) (alike _ _ (λ i k. ap (λ (x : ℕ). ltb x m) (sym (ranked .each i k)))) (first-unbeaten q n hn (fit .some) s h)) (b .unbeaten m (omega arith))));
-        near = within-le (subst (Within setMost) (sym value) (set-near (r .set))) (omega arith);
+        near = subst (Within sumMost) (sym value) (set-near (r .set));
       }
     where
       alike : (s t : ℕ → Bool) → ((i : ℕ) → i < n → s i ≡ t i) → reducedSum n s hn ≡ reducedSum n t hn
@@ -115,7 +114,7 @@ module _ (q : Question) (n : ℕ) (hn ho : ℕ → ℤ) (few : n ≤ 5) (fit : V
   same-sum : (o : ℕ) → o < n → heldSum q n hn ho ranks o ≡ overloadSum n hn (ho o) (factorByRank q (rank q n hn) hn o)
   same-sum o l = overload-cong n hn hn _ _ refl (λ i h. ap (λ (k : ℕ). pos k *ℤ hn i) (same-factors o l i h))
 
-  pub overload-right : ((i : ℕ) → i < n → Within hoLaneMost (ho i)) → (r : Loading) → BestTo q (λ o. OverloadAt n (held q hn ranks o) hn (ho o) o) (heldSum q n hn ho ranks) n r → LoadingRight q highway overload n hn ho r
+  pub overload-right : ((i : ℕ) → i < n → Within (among n hoLaneMost) (ho i)) → (r : Loading) → BestTo q (λ o. OverloadAt n (held q hn ranks o) hn (ho o) o) (heldSum q n hn ho ranks) n r → LoadingRight q highway overload n hn ho r
   unfolding bestOn bestOverload
   overload-right heavy r b =
       let o = b .at in

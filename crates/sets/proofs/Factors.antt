@@ -1,13 +1,13 @@
 -- Overload beside HO in one lane: the factors by rank are an assignment, and none beats them.
 use mathlib.Core.Path.{_≡_, refl, sym, _∙_, ap, subst}
 use mathlib.Core.Bool.{Bool, true, false, not, _&&_}
-use Prim.Native.Nat.{ℕ, zero, suc, _+_, _-_, _*_, _≤_, _<_}
+use Prim.Native.Nat.{ℕ, zero, suc, _+_, _-_, _*_, _/_, _≤_, _<_}
 use native.Mathlib.Nat.{mul-le-mul-right}
 use native.Mathlib.Decide.{decLe}
 use native.Mathlib.Omega.{arith}
 use lib.IntN.{ℤ, pos, _+ℤ_, _*ℤ_}
 use lib.Dec.{ltb, eqb}
-use borrow.Author.Tests.{lt-ltb, le-ltb, eqb-true, eq-eqb, ne-eqb}
+use borrow.Author.Tests.{ltb-true, lt-ltb, le-ltb, eqb-true, eq-eqb, ne-eqb}
 use Rattle.exact.specs.Bounds.{Within}
 use Rattle.exact.specs.Choice.{if_then_else_}
 use Rattle.exact.specs.Questions.{NoBetter, beats, extremeOver}
@@ -21,10 +21,11 @@ use Rattle.exact.proofs.Extremes.{no-better-refl, no-better-trans, no-better-an
 use Rattle.exact.proofs.Levels.{factors-unbeaten, total, total-levels, total-near}
 use Rattle.exact.proofs.Ranges.{sum-cong, sum-mono, sum-zero, count-cong}
 use Rattle.exact.proofs.Ring.{_⊕_, _⊗_, lit, _≐_, solve}
-use Rattle.model.specs.Lanes.{twentieths, additional}
+use Rattle.model.specs.Lanes.{additional}
 use Rattle.model.specs.Traffic.{additionalLanes, assigned, overloadSum, factorChoice, besideSum}
 use Rattle.model.proofs.Assignments.{additional-range, additional-falls, assigned-intro, assigned-level, assigned-top, assigned-number}
-use Rattle.magnitudes.specs.Magnitudes.{hnLaneMost, hoLaneMost, sumMost}
+use Rattle.magnitudes.specs.Magnitudes.{hnLaneMost, hoLaneMost, among, sumMost}
+use Rattle.sets.proofs.Reduced.{additional-total}
 use Rattle.sets.specs.Sets.{precedes, rank, factorByRank}
 use Rattle.sets.proofs.Places.{placeIn, place, place-order, rank-beside, places-count, precedes-true, beats-strict}
 
@@ -42,16 +43,6 @@ unfolding factorByRank
 factor-top q ranks v o i =
     by-test (eqb i o) (λ t. (if t then 0 else (if beats q (v i) (pos 0) then additional (if ltb (ranks o) (ranks i) then ranks i - 1 else ranks i) else 0)) ≤ 20) (λ _. omega arith)
     (λ _. by-test (beats q (v i) (pos 0)) (λ t. (if t then additional (if ltb (ranks o) (ranks i) then ranks i - 1 else ranks i) else 0) ≤ 20) (λ _. additional-range _ .1) (λ _. omega arith))
-
--- what four additional lanes count at most
-additional-total : (m : ℕ) → m ≤ 4 → total m additional ≤ 68
-unfolding twentieths
-additional-total zero h = omega arith
-additional-total (suc zero) h = omega arith
-additional-total (suc (suc zero)) h = omega arith
-additional-total (suc (suc (suc zero))) h = omega arith
-additional-total (suc (suc (suc (suc zero)))) h = omega arith
-additional-total (suc (suc (suc (suc (suc m))))) h = absurd (omega arith)
 
 times-zero : (x : ℤ) → x *ℤ pos 0 ≡ pos 0
 times-zero = solve 1 (λ x. x ⊗ lit 0 ≐ lit 0) tt
@@ -189,14 +180,19 @@ module _ (q : Question) (n : ℕ) (hn : ℕ → ℤ) (some : (i : ℕ) → i < n
       by-test (eqb (g o) 0 && assigned n g) (λ t. NoBetter q (if t then overloadSum n hn (ho o) g else pos 20 *ℤ ho o) (overloadSum n hn (ho o) f))
       (λ t. let p = and-true (eqb (g o) 0) (assigned n g) t in assignment-unbeaten (ho o) g (eqb-true (g o) 0 (p .0)) (p .1)) (λ _. alone-unbeaten (ho o)))
 
-  -- how far from zero they are: at most four additional lanes
-  pub factor-near : n ≤ 5 → ((i : ℕ) → i < n → Within hnLaneMost (hn i)) → (ho : ℤ) → Within hoLaneMost ho → Within sumMost (overloadSum n hn ho f)
+  -- how far from zero they are: at most four additional lanes, or nine whose most is half
+  pub factor-near : n ≤ 10 → ((i : ℕ) → i < n → Within (among n hnLaneMost) (hn i)) → (ho : ℤ) → Within (among n hoLaneMost) ho → Within sumMost (overloadSum n hn ho f)
   unfolding overloadSum
   factor-near few near ho heavy =
-      let m = additionalLanes n f in
       let all = count-but n o below in
       let number = assigned-number n f factor-assigned o factor-ho in
-      let most = additional-total m (omega arith) in
-      let same = total-levels n m f additional 20 (λ t h. assigned-level n f factor-assigned t (omega arith)) (assigned-top n f factor-assigned) (λ i h. additional-range i .1) in
-      let sum : total n f ≤ 68 = omega arith in
-      within-le (within-add (within-mul (within-pos 20 (omega arith)) heavy) (within-le (total-near hnLaneMost n f hn near) (mul-le-mul-right hnLaneMost sum))) (omega arith)
+      let most = additional-total (additionalLanes n f) in
+      by-test (ltb n 6) (λ t. ((i : ℕ) → i < n → Within (if t then hnLaneMost else hnLaneMost / 2) (hn i)) → Within (if t then hoLaneMost else hoLaneMost / 2) ho → Within sumMost (overloadSum n hn ho f))
+      (λ t near heavy. let l = ltb-true n 6 t in go hnLaneMost hoLaneMost 68 (most .0 .0 (omega arith)) (omega arith) near heavy)
+      (λ t near heavy. go (hnLaneMost / 2) (hoLaneMost / 2) 124 (most .1 .0 (omega arith)) (omega arith) near heavy) near heavy
+    where
+      go : (b c t : ℕ) → total (additionalLanes n f) additional ≤ t → 20 * c + t * b ≤ sumMost → ((i : ℕ) → i < n → Within b (hn i)) → Within c ho → Within sumMost (overloadSum n hn ho f)
+      go b c t most fits near heavy =
+          let same = total-levels n (additionalLanes n f) f additional 20 (λ t h. assigned-level n f factor-assigned t (omega arith)) (assigned-top n f factor-assigned) (λ i h. additional-range i .1) in
+          let sum : total n f ≤ t = omega arith in
+          within-le (within-add (within-mul (within-pos 20 (omega arith)) heavy) (within-le (total-near b n f hn near) (mul-le-mul-right b sum))) fits

@@ -1,5 +1,4 @@
 pub mod SetNumbers
-pub mod Filled
 pub mod Groups
 pub mod Reduced
 pub mod Places

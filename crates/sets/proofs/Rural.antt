@@ -26,19 +26,19 @@ use Rattle.model.proofs.Signs.{empty-sum, alone-sum, multiple-zero}
 use Rattle.model.proofs.Assignments.{assigned-none}
 use Rattle.magnitudes.specs.Magnitudes.{sumMost}
 use Rattle.sets.specs.Sets.{numberAt, LoadingRight}
-use Rattle.sets.proofs.Filled.{getD-nothing}
+use Rattle.exact.proofs.Filled.{getD-nothing}
 
 -- no lane under HO
-none-over : (n : ℕ) → n ≤ 5 → (i : ℕ) → i < n → eqb i 5 ≡ false
-none-over n few i h = ne-eqb i 5 (λ e. omega arith)
+none-over : (n : ℕ) → n ≤ 10 → (i : ℕ) → i < n → eqb i 10 ≡ false
+none-over n few i h = ne-eqb i 10 (λ e. omega arith)
 
 -- the empty set has no lane
 zero-bit : (i : ℕ) → bit 0 i ≡ false
 zero-bit i = rw (zero-div (2 ^ i)) refl
 
 -- no factor in the one lane
-one-none : (i : ℕ) → i < 1 → ltb 0 (numberAt (replicate 5 0) i) ≡ false
-one-none i h = ap (ltb 0) (getD-nothing 5 i 0)
+one-none : (i : ℕ) → i < 1 → ltb 0 (numberAt (replicate 10 0) i) ≡ false
+one-none i h = ap (ltb 0) (getD-nothing 10 i 0)
 
 -- the one lane's set
 one-sum : (hn : ℕ → ℤ) → setSum (reductionFor rural) 1 hn 1 ≡ pos 17 *ℤ hn 0
@@ -53,7 +53,7 @@ one-unbeaten q hn some zero h =
 one-unbeaten q hn some (suc zero) h = no-better-refl q _
 one-unbeaten q hn some (suc (suc s)) h = absurd (omega arith)
 
-pub one-right : (q : Question) (hn ho : ℕ → ℤ) (x : ℤ) → NoBetter q (pos 0) (hn 0) → x ≡ pos 17 *ℤ hn 0 → Within sumMost x → LoadingRight q rural normal 1 hn ho (record { value = x; lane = 5; set = 1; factors = replicate 5 0 })
+pub one-right : (q : Question) (hn ho : ℕ → ℤ) (x : ℤ) → NoBetter q (pos 0) (hn 0) → x ≡ pos 17 *ℤ hn 0 → Within sumMost x → LoadingRight q rural normal 1 hn ho (record { value = x; lane = 10; set = 1; factors = replicate 10 0 })
 unfolding bestOn bestNormal
 one-right q hn ho x some is near =
     let f = setSum (reductionFor rural) 1 hn in
@@ -63,15 +63,15 @@ one-right q hn ho x some is near =
       kinds = refl;
       small = lit< tt;
       apart = refl;
-      factors = record { lanes = one-none; counts = assigned-none 1 _ (λ i h. getD-nothing 5 i 0) };
-      past = λ i h. getD-nothing 5 i 0;
+      factors = record { lanes = one-none; counts = assigned-none 1 _ (λ i h. getD-nothing 10 i 0) };
+      past = λ i h. getD-nothing 10 i 0;
       value = own ∙ one-sum hn ∙ solve 1 (λ x. lit 17 ⊗ x ≐ lit 17 ⊗ (lit 0 ⊕ x)) tt (hn 0);
       best = own ∙ no-better-antisym q (f 1) (extreme q 1 f) (extreme-bounds q 1 f 1 (omega arith)) (extreme-least q 1 f (f 1) (one-unbeaten q hn some));
       near = near;
     }
 
 -- where it gives nothing, the empty set is as good
-pub idle-right : (q : Question) (hn ho : ℕ → ℤ) → hn 0 ≡ pos 0 → LoadingRight q rural normal 1 hn ho (record { value = pos 0; lane = 5; set = 0; factors = replicate 5 0 })
+pub idle-right : (q : Question) (hn ho : ℕ → ℤ) → hn 0 ≡ pos 0 → LoadingRight q rural normal 1 hn ho (record { value = pos 0; lane = 10; set = 0; factors = replicate 10 0 })
 unfolding bestOn bestNormal setSum
 idle-right q hn ho none =
     let f = setSum (reductionFor rural) 1 hn in
@@ -80,14 +80,14 @@ idle-right q hn ho none =
       kinds = refl;
       small = lit< tt;
       apart = refl;
-      factors = record { lanes = one-none; counts = assigned-none 1 _ (λ i h. getD-nothing 5 i 0) };
-      past = λ i h. getD-nothing 5 i 0;
+      factors = record { lanes = one-none; counts = assigned-none 1 _ (λ i h. getD-nothing 10 i 0) };
+      past = λ i h. getD-nothing 10 i 0;
       value = refl;
       best = ap (λ (z : ℤ). pos 17 *ℤ z) (sym none) ∙ sym (one-sum hn) ∙ no-better-antisym q (f 1) (extreme q 1 f) (extreme-bounds q 1 f 1 (omega arith)) (extreme-least q 1 f (f 1) (one-unbeaten q hn (no-better-of-eq q (sym none))));
       near = within-pos sumMost (omega arith);
     }
 
-pub none-right : (q : Question) (n : ℕ) (hn ho : ℕ → ℤ) → n ≤ 5 → LoadingRight q rural overload n hn ho (record { value = pos 0; lane = 5; set = 0; factors = replicate 5 0 })
+pub none-right : (q : Question) (n : ℕ) (hn ho : ℕ → ℤ) → n ≤ 10 → LoadingRight q rural overload n hn ho (record { value = pos 0; lane = 10; set = 0; factors = replicate 10 0 })
 unfolding bestOn
 none-right q n hn ho few =
     let no = none-over n few in
@@ -96,11 +96,11 @@ none-right q n hn ho few =
       kinds = (count-cong n _ (λ i. false) (λ i h. zero-bit i) ∙ count-false n, count-cong n _ (λ i. false) no ∙ count-false n);
       small = pow-pos n;
       apart = refl;
-      factors = record { lanes = λ i h. ap (ltb 0) (getD-nothing 5 i 0) ∙ sym (zero-bit i); counts = assigned-none n _ (λ i h. getD-nothing 5 i 0) };
-      past = λ i h. getD-nothing 5 i 0;
+      factors = record { lanes = λ i h. ap (ltb 0) (getD-nothing 10 i 0) ∙ sym (zero-bit i); counts = assigned-none n _ (λ i h. getD-nothing 10 i 0) };
+      past = λ i h. getD-nothing 10 i 0;
       value =
           ap (λ (z : ℤ). pos 20 *ℤ z) (sym (sum-zero n _ (λ i h. ap (λ (t : Bool). if t then ho i else pos 0) (no i h))))
-          ∙ sym (alone-sum n _ _ _ (λ i h. getD-nothing 5 i 0));
+          ∙ sym (alone-sum n _ _ _ (λ i h. getD-nothing 10 i 0));
       best = refl;
       near = within-pos sumMost (omega arith);
     }

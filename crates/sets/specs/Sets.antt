@@ -55,11 +55,11 @@ pub record FirstLanes (n : ℕ) (ranks : ℕ → ℕ) (v : ℕ → ℤ) (m : ℕ
   pub small : group .set < 2 ^ n
   pub bits : (i : ℕ) → i < n → bit (group .set) i ≡ ltb (ranks i) m
   pub sum : group .sum ≡ sumTo n (λ i. if ltb (ranks i) m then v i else pos 0)
-  pub near : Within (5 * hnLaneMost) (group .sum)
+  pub near : Within (10 * hnLaneMost) (group .sum)
 
 -- a loading of the lanes whose rank is below m, under HN at the r of their number
 pub record FirstAt (n : ℕ) (ranks : ℕ → ℕ) (v : ℕ → ℤ) (m : ℕ) (r : Loading) : Type 0 where
-  pub lane : r .lane ≡ 5
+  pub lane : r .lane ≡ 10
   pub small : r .set < 2 ^ n
   pub bits : (i : ℕ) → i < n → bit (r .set) i ≡ ltb (ranks i) m
   pub none : (i : ℕ) → numberAt (r .factors) i ≡ 0
@@ -76,7 +76,7 @@ pub record OthersRight (n : ℕ) (factor : ℕ → ℕ) (v : ℕ → ℤ) (group
   pub small : group .set < 2 ^ n
   pub bits : (i : ℕ) → i < n → bit (group .set) i ≡ ltb 0 (factor i)
   pub sum : group .sum ≡ sumTo n (λ i. pos (factor i) *ℤ v i)
-  pub near : Within (5 * factoredMost) (group .sum)
+  pub near : Within (10 * factoredMost) (group .sum)
   pub factors : (i : ℕ) → i < n → numberAt all i ≡ factor i
   pub past : (i : ℕ) → n ≤ i → numberAt all i ≡ 0
 
@@ -93,7 +93,7 @@ pub record OverloadAt (n : ℕ) (factor : ℕ → ℕ) (v : ℕ → ℤ) (ho : �
 
 -- a live kind's HO lane, set of HN lanes and factors, which keep its rules, and whose sum is the kind's best for the loads
 pub record LoadingRight (q : Question) (profile : Profile) (live : Live) (n : ℕ) (hn ho : ℕ → ℤ) (r : Loading) : Type 0 where
-  pub lane : (r .lane < n) ⊎ (r .lane ≡ 5)
+  pub lane : (r .lane < n) ⊎ (r .lane ≡ 10)
   pub kinds : KindsFit profile live (countTo n (bit (r .set))) (countTo n (λ i. eqb i (r .lane)))
   pub small : r .set < 2 ^ n
   pub apart : bit (r .set) (r .lane) ≡ false

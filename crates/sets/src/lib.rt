@@ -11,7 +11,7 @@ ghost use Rattle.exact.specs.Questions.{beats as beatsFor, NoBetter};
 ghost use Rattle.exact.specs.declared.Question.{Question};
 ghost use Rattle.model.specs.Job.{highway, rural, normal, overload};
 ghost use Rattle.model.specs.Lanes.{bit, twentieths as twentiethsOf, reduction as reductionOf, additional as additionalOf};
-ghost use Rattle.magnitudes.specs.Magnitudes.{hnLaneMost, hoLaneMost, factoredMost};
+ghost use Rattle.magnitudes.specs.Magnitudes.{hnLaneMost, hoLaneMost, among, factoredMost};
 ghost use Rattle.sets.specs.Sets.{valueAt, numberAt, ValuesFit, precedes as precedesOf, rank as rankOf, Ranked, FirstLanes, FirstAt, factorByRank, OthersRight, OverloadAt, LoadingRight};
 
 // Lane i's bit.
@@ -24,18 +24,18 @@ pub fn has(set: u32, i: usize) -> bool
 
 // The set with lane i, which it lacks.
 fn with(i: usize, set: u32) -> u32
-    requires { ⌜ (i < 5) × (set < 32) ⌝ }
+    requires { ⌜ (i < 10) × (set < 1024) ⌝ }
     ensures { λ r. ⌜ r ≡ set + 2 ^ i ⌝ }
 {
     set + (1u32 << (i as u32))
 }
 
-// The set of HN lanes with the HO lane; lane 5 is none.
+// The set of HN lanes with the HO lane; lane 10 is none.
 pub fn loaded(set: u32, lane: usize) -> u32
-    requires { ⌜ set < 32 ⌝ }
-    ensures { λ r. ⌜ r ≡ (if ltb lane 5 then set + 2 ^ lane else set) ⌝ }
+    requires { ⌜ set < 1024 ⌝ }
+    ensures { λ r. ⌜ r ≡ (if ltb lane 10 then set + 2 ^ lane else set) ⌝ }
 {
-    if lane < 5 {
+    if lane < 10 {
         return with(lane, set);
     }
     set
@@ -44,8 +44,8 @@ pub fn loaded(set: u32, lane: usize) -> u32
 // ---- ranks
 
 // Whether lane k precedes lane i: it is better for the question, or as good and further left.
-fn precedes(q: Question, values: [i64; 5], k: usize, i: usize) -> bool
-    requires { ⌜ (k < 5) × (i < 5) × Within hnLaneMost (valueAt values k) × Within hnLaneMost (valueAt values i) ⌝ }
+fn precedes(q: Question, values: [i64; 10], k: usize, i: usize) -> bool
+    requires { ⌜ (k < 10) × (i < 10) × Within hnLaneMost (valueAt values k) × Within hnLaneMost (valueAt values i) ⌝ }
     ensures { λ r. ⌜ r ≡ precedesOf q (valueAt values) k i ⌝ }
 {
     if k < i {
@@ -55,8 +55,8 @@ fn precedes(q: Question, values: [i64; 5], k: usize, i: usize) -> bool
 }
 
 // 1 where lane k precedes lane i, else 0.
-fn ahead(q: Question, values: [i64; 5], k: usize, i: usize) -> usize
-    requires { ⌜ (k < 5) × (i < 5) × Within hnLaneMost (valueAt values k) × Within hnLaneMost (valueAt values i) ⌝ }
+fn ahead(q: Question, values: [i64; 10], k: usize, i: usize) -> usize
+    requires { ⌜ (k < 10) × (i < 10) × Within hnLaneMost (valueAt values k) × Within hnLaneMost (valueAt values i) ⌝ }
     ensures { λ r. ⌜ (r ≡ (if precedesOf q (valueAt values) k i then 1 else 0)) × (r ≤ 1) ⌝ }
 {
     if precedes(q, values, k, i) {
@@ -66,8 +66,8 @@ fn ahead(q: Question, values: [i64; 5], k: usize, i: usize) -> usize
 }
 
 // Lane i's rank among n lanes.
-fn rank(q: Question, values: [i64; 5], n: usize, i: usize) -> usize
-    requires { ⌜ (n ≤ 5) × (i < n) × ((k : ℕ) → k < n → Within hnLaneMost (valueAt values k)) ⌝ }
+fn rank(q: Question, values: [i64; 10], n: usize, i: usize) -> usize
+    requires { ⌜ (n ≤ 10) × (i < n) × ((k : ℕ) → k < n → Within hnLaneMost (valueAt values k)) ⌝ }
     ensures { λ r. ⌜ r ≡ rankOf q n (valueAt values) i ⌝ }
 {
     let mut r: usize = 0;
@@ -78,11 +78,11 @@ fn rank(q: Question, values: [i64; 5], n: usize, i: usize) -> usize
 }
 
 // The rank of each of n lanes.
-pub fn ranks(q: Question, values: [i64; 5], n: usize) -> [usize; 5]
-    requires { ⌜ (n ≤ 5) × ((k : ℕ) → k < n → Within hnLaneMost (valueAt values k)) ⌝ }
+pub fn ranks(q: Question, values: [i64; 10], n: usize) -> [usize; 10]
+    requires { ⌜ (n ≤ 10) × ((k : ℕ) → k < n → Within hnLaneMost (valueAt values k)) ⌝ }
     ensures { λ r. ⌜ Ranked q n (valueAt values) r ⌝ }
 {
-    let mut all = [0usize; 5];
+    let mut all = [0usize; 10];
     for i in 0..n {
         all[i] = rank(q, values, n, i);
     }
@@ -102,7 +102,8 @@ fn twentieths(m: u32) -> u32
         2 => 18,
         3 => 16,
         4 => 14,
-        _ => 12,
+        5 => 12,
+        _ => 11,
     }
 }
 
@@ -116,7 +117,7 @@ struct Group {
 
 // A group with lane i, which gives this, where it is loaded.
 fn joined(group: Group, loaded: bool, i: usize, value: i64) -> Group
-    requires { ⌜ (i < 5) × (group .set < 32) × Within (4 * factoredMost) (group .sum) × Within factoredMost value ⌝ }
+    requires { ⌜ (i < 10) × (group .set < 1024) × Within (9 * factoredMost) (group .sum) × Within factoredMost value ⌝ }
     ensures { λ r. ⌜ r ≡ (if loaded then record { set = group .set + 2 ^ i; sum = group .sum +ℤ value } else group) ⌝ }
 {
     if loaded {
@@ -128,12 +129,12 @@ fn joined(group: Group, loaded: bool, i: usize, value: i64) -> Group
     group
 }
 
-// A live kind's sum in 75 N·U times thousandths, twentieths and the sums' denominator; its HO lane, 5 where there is none; the set of its HN lanes; each lane's factor in twentieths, 0 where it is not additional.
+// A live kind's sum in 75 N·U times thousandths, twentieths and the sums' denominator; its HO lane, 10 where there is none; the set of its HN lanes; each lane's factor in twentieths, 0 where it is not additional.
 pub struct Loading {
     pub value: i64,
     pub lane: usize,
     pub set: u32,
-    pub factors: [u32; 5],
+    pub factors: [u32; 10],
 }
 
 // The better of two loadings, the first at a tie.
@@ -156,8 +157,8 @@ fn reduction(set: u32) -> i64
 }
 
 // The lanes whose rank is below m.
-fn first_lanes(ranks: [usize; 5], values: [i64; 5], n: usize, m: usize) -> Group
-    requires { ⌜ (n ≤ 5) × ((i : ℕ) → i < n → Within hnLaneMost (valueAt values i)) ⌝ }
+fn first_lanes(ranks: [usize; 10], values: [i64; 10], n: usize, m: usize) -> Group
+    requires { ⌜ (n ≤ 10) × ((i : ℕ) → i < n → Within hnLaneMost (valueAt values i)) ⌝ }
     ensures { λ r. ⌜ FirstLanes n (numberAt ranks) (valueAt values) m r ⌝ }
 {
     let mut group = Group { set: 0, sum: 0 };
@@ -168,24 +169,24 @@ fn first_lanes(ranks: [usize; 5], values: [i64; 5], n: usize, m: usize) -> Group
 }
 
 // The m first lanes under HN, at their r.
-fn normal_at(ranks: [usize; 5], hn: [i64; 5], n: usize, m: usize) -> Loading
-    requires { ⌜ (n ≤ 5) × ((i : ℕ) → i < n → Within hnLaneMost (valueAt hn i)) ⌝ }
+fn normal_at(ranks: [usize; 10], hn: [i64; 10], n: usize, m: usize) -> Loading
+    requires { ⌜ (n ≤ 10) × ((i : ℕ) → i < n → Within hnLaneMost (valueAt hn i)) ⌝ }
     ensures { λ r. ⌜ FirstAt n (numberAt ranks) (valueAt hn) m r ⌝ }
 {
     let group = first_lanes(ranks, hn, n, m);
     let value = reduction(group.set) * group.sum;
-    let factors = [0u32; 5];
+    let factors = [0u32; 10];
     Loading {
         value,
-        lane: 5,
+        lane: 10,
         set: group.set,
         factors,
     }
 }
 
 // The best set of n lanes of a highway.
-pub fn best_normal(q: Question, ranks: [usize; 5], hn: [i64; 5], n: usize) -> Loading
-    requires { ⌜ (n ≤ 5) × Ranked q n (valueAt hn) ranks × ValuesFit q hnLaneMost n (valueAt hn) ⌝ }
+pub fn best_normal(q: Question, ranks: [usize; 10], hn: [i64; 10], n: usize) -> Loading
+    requires { ⌜ (n ≤ 10) × Ranked q n (valueAt hn) ranks × ValuesFit q (among n hnLaneMost) n (valueAt hn) ⌝ }
     ensures { λ r. ⌜ ((ho : ℕ → ℤ) → LoadingRight q highway normal n (valueAt hn) ho r) ⌝ }
 {
     let mut best = normal_at(ranks, hn, n, 0);
@@ -199,7 +200,7 @@ pub fn best_normal(q: Question, ranks: [usize; 5], hn: [i64; 5], n: usize) -> Lo
 
 // The factor of additional lane m, counted from 0, in twentieths.
 fn additional(m: usize) -> u32
-    requires { ⌜ m ≤ 5 ⌝ }
+    requires { ⌜ m ≤ 10 ⌝ }
     ensures { λ r. ⌜ (r ≡ additionalOf m) × (r ≤ 20) ⌝ }
 {
     twentieths(m as u32 + 1)
@@ -216,8 +217,8 @@ fn place(rank: usize, other: usize) -> usize
 }
 
 // Lane i's factor beside HO in lane o, in twentieths: a lane that gives nothing stays unloaded.
-fn factor(q: Question, ranks: [usize; 5], hn: [i64; 5], o: usize, i: usize) -> u32
-    requires { ⌜ (o < 5) × (i < 5) × (numberAt ranks i ≤ 5) × Within hnLaneMost (valueAt hn i) ⌝ }
+fn factor(q: Question, ranks: [usize; 10], hn: [i64; 10], o: usize, i: usize) -> u32
+    requires { ⌜ (o < 10) × (i < 10) × (numberAt ranks i ≤ 10) × Within hnLaneMost (valueAt hn i) ⌝ }
     ensures { λ r. ⌜ (r ≡ factorByRank q (numberAt ranks) (valueAt hn) o i) × (r ≤ 20) ⌝ }
 {
     if i == o {
@@ -232,16 +233,16 @@ fn factor(q: Question, ranks: [usize; 5], hn: [i64; 5], o: usize, i: usize) -> u
 // The additional lanes beside an HO lane, and each lane's factor.
 struct Others {
     group: Group,
-    factors: [u32; 5],
+    factors: [u32; 10],
 }
 
 // The lanes beside HO in lane o, each at its factor.
-fn beside(q: Question, ranks: [usize; 5], hn: [i64; 5], n: usize, o: usize) -> Others
-    requires { ⌜ (n ≤ 5) × (o < 5) × ((i : ℕ) → i < n → numberAt ranks i ≤ 5) × ((i : ℕ) → i < n → Within hnLaneMost (valueAt hn i)) ⌝ }
+fn beside(q: Question, ranks: [usize; 10], hn: [i64; 10], n: usize, o: usize) -> Others
+    requires { ⌜ (n ≤ 10) × (o < 10) × ((i : ℕ) → i < n → numberAt ranks i ≤ 10) × ((i : ℕ) → i < n → Within hnLaneMost (valueAt hn i)) ⌝ }
     ensures { λ r. ⌜ OthersRight n (factorByRank q (numberAt ranks) (valueAt hn) o) (valueAt hn) (r .group) (r .factors) ⌝ }
 {
     let mut group = Group { set: 0, sum: 0 };
-    let mut factors = [0u32; 5];
+    let mut factors = [0u32; 10];
     for i in 0..n {
         let f = factor(q, ranks, hn, o, i);
         group = joined(group, f > 0, i, (f as i64) * hn[i]);
@@ -251,8 +252,8 @@ fn beside(q: Question, ranks: [usize; 5], hn: [i64; 5], n: usize, o: usize) -> O
 }
 
 // HO of this value in lane o, at 20, and the lanes beside it.
-fn overload_at(q: Question, ranks: [usize; 5], hn: [i64; 5], n: usize, ho: i64, o: usize) -> Loading
-    requires { ⌜ (n ≤ 5) × (o < 5) × ((i : ℕ) → i < n → numberAt ranks i ≤ 5) × ((i : ℕ) → i < n → Within hnLaneMost (valueAt hn i)) × Within hoLaneMost ho ⌝ }
+fn overload_at(q: Question, ranks: [usize; 10], hn: [i64; 10], n: usize, ho: i64, o: usize) -> Loading
+    requires { ⌜ (n ≤ 10) × (o < 10) × ((i : ℕ) → i < n → numberAt ranks i ≤ 10) × ((i : ℕ) → i < n → Within hnLaneMost (valueAt hn i)) × Within hoLaneMost ho ⌝ }
     ensures { λ r. ⌜ OverloadAt n (factorByRank q (numberAt ranks) (valueAt hn) o) (valueAt hn) ho o r ⌝ }
 {
     let others = beside(q, ranks, hn, n, o);
@@ -270,12 +271,12 @@ fn overload_at(q: Question, ranks: [usize; 5], hn: [i64; 5], n: usize, ho: i64, 
 // The best HO lane of a highway, additional lanes and assignment.
 pub fn best_overload(
     q: Question,
-    ranks: [usize; 5],
-    hn: [i64; 5],
-    ho: [i64; 5],
+    ranks: [usize; 10],
+    hn: [i64; 10],
+    ho: [i64; 10],
     n: usize,
 ) -> Loading
-    requires { ⌜ (0 < n) × (n ≤ 5) × Ranked q n (valueAt hn) ranks × ValuesFit q hnLaneMost n (valueAt hn) × ((i : ℕ) → i < n → Within hoLaneMost (valueAt ho i)) ⌝ }
+    requires { ⌜ (0 < n) × (n ≤ 10) × Ranked q n (valueAt hn) ranks × ValuesFit q (among n hnLaneMost) n (valueAt hn) × ((i : ℕ) → i < n → Within (among n hoLaneMost) (valueAt ho i)) ⌝ }
     ensures { λ r. ⌜ LoadingRight q highway overload n (valueAt hn) (valueAt ho) r ⌝ }
 {
     let mut best = overload_at(q, ranks, hn, n, ho[0], 0);
@@ -289,14 +290,14 @@ pub fn best_overload(
 
 // No lane loaded: the overload of a rural bridge, and the best set of one lane that gives nothing.
 pub fn no_lane() -> Loading
-    ensures { λ r. ⌜ ((q : Question) (n : ℕ) (hn ho : ℕ → ℤ) → n ≤ 5 → LoadingRight q rural overload n hn ho r) ⌝ }
+    ensures { λ r. ⌜ ((q : Question) (n : ℕ) (hn ho : ℕ → ℤ) → n ≤ 10 → LoadingRight q rural overload n hn ho r) ⌝ }
     ensures { λ r. ⌜ ((q : Question) (hn ho : ℕ → ℤ) → hn 0 ≡ pos 0 → LoadingRight q rural normal 1 hn ho r) ⌝ }
 {
     Loading {
         value: 0,
-        lane: 5,
+        lane: 10,
         set: 0,
-        factors: [0; 5],
+        factors: [0; 10],
     }
 }
 
@@ -310,8 +311,8 @@ pub fn one_lane(value: i64) -> Loading
     }
     Loading {
         value: 17 * value,
-        lane: 5,
+        lane: 10,
         set: 1,
-        factors: [0; 5],
+        factors: [0; 10],
     }
 }

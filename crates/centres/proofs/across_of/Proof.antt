@@ -1,21 +1,52 @@
-use Prim.Native.Nat.{_*_, _≤_}
+use mathlib.Core.Path.{_≡_, refl, subst}
+use mathlib.Core.Logic.{inl, inr}
+use Prim.Native.Nat.{ℕ, _*_, _≤_, max}
 use native.Mathlib.Nat.{mul-le-mul}
+use native.Mathlib.Decide.{decLe}
 use native.Mathlib.Omega.{arith}
 use borrow.Author.Needs.{needs}
-use Rattle.centres.proofs.LaneLimits.{across-right}
+use Rattle.model.specs.Job.{Job}
+use Rattle.centres.specs.Spans.{AcrossFits, DecksFit, DecksOf, Spanned}
+use Rattle.centres.specs.declared.Across.{Across}
+use Rattle.centres.specs.declared.Decks.{Decks}
+use Rattle.centres.proofs.LaneLimits.{across-fits, spanned}
 use Rattle.centres.proofs.across_of.Statement.{statement}
 use Rattle.centres.proofs.across_of.Tie as tie
 
-mul-t6 : tie.Need-mul-t6
-mul-t6 c =
+lanes-on-requires : tie.Need-lanes-on-requires
+lanes-on-requires c κs =
     let s = c .before .before .before in
-    let h : c .before .lane-count .result * s .args .g ≤ 5 * 50 = mul-le-mul (c .before .lane-count .ensures .1 .1) (s .pre .close) in
-    omega arith
+    elim (decLe (s .args .second) 0) [ yes z ↦ inl (omega arith) | no h ↦ let f = s .pre .1 (omega arith) in inr (f .wide, f .narrow) ]
+
+-- the lanes of both carriageways
+module _ (c : tie.After-at-least-one) where
+  abbrev s : tie.Start
+  s = c .before .before .before .before .before .before
+
+  abbrev n : ℕ
+  n = c .before .before .before .lane-count .result
+
+  abbrev m : ℕ
+  m = c .before .before .lanes-on .result
+
+  few : n * max 1 m ≤ 5 * 5
+  few = let some : max 1 m ≤ 5 = omega (arith, c .before .before .lanes-on .ensures .1) in mul-le-mul (c .before .before .before .lane-count .ensures .1 .1) some
+
+  abbrev decks : Decks
+  decks = record { width = s .args .width; lanes = n; second = s .args .second; beyond = m; g = s .args .g }
+
+  fit : DecksFit (s .args .near .now) (s .args .far .now) decks
+  fit = record { first = s .pre .0; lanes = c .before .before .before .lane-count .ensures .0; second = s .pre .1; beyond = c .before .before .lanes-on .ensures .0 }
+
+mul-t12 : tie.Need-mul-t12
+mul-t12 c = rw (c .at-least-one .ensures) (omega (arith, few c))
+
+mul-t13 : tie.Need-mul-t13
+mul-t13 c = rw (c .at-least-one .ensures) (let h : n c * max 1 (m c) * s c .args .g ≤ 25 * 50 = mul-le-mul (few c) (s c .pre .0 .close) in omega arith)
 
 returns : tie.Need-returns
 returns c =
-    let s = c .before .before .before in
-    across-right (s .args .section .now) (s .args .width) (c .before .lane-count .result) (s .args .g) (c .spans .result) (s .pre) (c .before .lane-count .ensures .0) (c .spans .ensures .1 .0)
+    rw (c .at-least-one .ensures) (across-fits (fit c) (c .before .spans .result) (c .before .spans .ensures .0), λ job of. spanned (fit c) (c .before .spans .result) (c .before .spans .ensures .0) job of)
 
 pub across-of-spec : {M : Type 1} → statement M
-across-of-spec = tie.close (tie.spec (λ c κs. search needs) (λ c κs. search needs) mul-t6 returns)
+across-of-spec = tie.close (tie.spec (λ c κs. search needs) lanes-on-requires (λ c κs. search needs) (λ c. search needs) (λ c κs. search needs) mul-t12 mul-t13 returns)

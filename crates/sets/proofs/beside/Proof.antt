@@ -17,7 +17,7 @@ use Rattle.exact.proofs.Ring.{_⊗_, lit, _≐_, solve}
 use Rattle.magnitudes.specs.Magnitudes.{hnLaneMost, factoredMost}
 use Rattle.sets.specs.Sets.{valueAt, numberAt, factorByRank}
 use Rattle.sets.proofs.Factors.{factor-top}
-use Rattle.sets.proofs.Filled.{FilledTo, filled-none, filled-more}
+use Rattle.exact.proofs.Filled.{FilledTo, filled-none, filled-more}
 use Rattle.sets.proofs.Groups.{Gathered, gathered-none, gathered-more, gathered-small, gathered-bits, gathered-near}
 use Rattle.sets.proofs.beside.Statement.{statement}
 use Rattle.sets.proofs.beside.Tie as tie
@@ -25,13 +25,13 @@ use Rattle.sets.proofs.beside.Tie as tie
 abbrev Inv-loop : tie.InvT-loop
 Inv-loop q ranks n o hn group₀ factors₀ i₀ group factors i =
     let f = factorByRank q (numberAt ranks) (valueAt hn) o in
-    (i ≤ n) × Gathered i (λ k. ltb 0 (f k)) (λ k. pos (f k) *ℤ valueAt hn k) group × FilledTo (λ k x. x ≡ f k) 5 0 i factors
+    (i ≤ n) × Gathered i (λ k. ltb 0 (f k)) (λ k. pos (f k) *ℤ valueAt hn k) group × FilledTo (λ k x. x ≡ f k) 10 0 i factors
 
 abbrev μ-loop : tie.MeasureT-loop
 μ-loop q ranks n o hn group₀ factors₀ i₀ group factors i = n - i
 
 loop-holds : tie.Need-loop-holds Inv-loop μ-loop
-loop-holds c = (omega arith, gathered-none _ _, filled-none _ 5 0)
+loop-holds c = (omega arith, gathered-none _ _, filled-none _ 10 0)
 
 factor-requires : tie.Need-factor-requires Inv-loop μ-loop
 factor-requires c κs = let s = c .before .before in let l = c .before .loop in (omega arith, omega arith, s .pre .2 (l .i) (omega arith), s .pre .3 (l .i) (omega arith))
@@ -71,8 +71,8 @@ joined-requires c κs =
     let l = c .before .before .before .loop in
     let g = l .inv .1 in (
       omega arith,
-      lt-of-lt-of-le (gathered-small g) (pow-mono {i = l .i} {j = 5} (omega arith)),
-      gathered-near g factoredMost 4 (λ k h. lane-near (factor-top _ _ _ _ k) (s c .pre .3 k (omega arith))) (omega arith),
+      lt-of-lt-of-le (gathered-small g) (pow-mono {i = l .i} {j = 10} (omega arith)),
+      gathered-near g factoredMost 9 (λ k h. lane-near (factor-top _ _ _ _ k) (s c .pre .3 k (omega arith))) (omega arith),
       told (given c .1) .1,
     )
 
@@ -91,7 +91,7 @@ returns c =
     let v = valueAt (st .args .t3) in
     let f = factorByRank (st .args .q) (numberAt (st .args .ranks)) v (st .args .o) in
     let g = subst (λ (i : ℕ). Gathered i (λ k. ltb 0 (f k)) (λ k. pos (f k) *ℤ v k) (l .group)) all (l .inv .1) in
-    record { small = gathered-small g; bits = gathered-bits g; sum = g .sum ∙ sum-cong (st .args .n) _ _ (λ i h. only (f i) (v i)); near = gathered-near g factoredMost 5 (λ k h. lane-near (factor-top _ _ _ _ k) (st .pre .3 k h)) (omega arith); factors = λ i h. l .inv .2 .each i (omega arith); past = λ i h. l .inv .2 .past i (omega arith) }
+    record { small = gathered-small g; bits = gathered-bits g; sum = g .sum ∙ sum-cong (st .args .n) _ _ (λ i h. only (f i) (v i)); near = gathered-near g factoredMost 10 (λ k h. lane-near (factor-top _ _ _ _ k) (st .pre .3 k h)) (omega arith); factors = λ i h. l .inv .2 .each i (omega arith); past = λ i h. l .inv .2 .past i (omega arith) }
   where
     only : (f : ℕ) (x : ℤ) → (if ltb 0 f then pos f *ℤ x else pos 0) ≡ pos f *ℤ x
     only f x = by-test (ltb 0 f) (λ t. (if t then pos f *ℤ x else pos 0) ≡ pos f *ℤ x) (λ _. refl) (λ e. let h = ltb-false 0 f e in let z : f ≡ 0 = omega arith in rw z (solve 1 (λ x. lit 0 ≐ lit 0 ⊗ x) tt x))

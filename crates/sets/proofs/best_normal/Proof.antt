@@ -3,6 +3,7 @@ use Prim.Native.Nat.{ℕ, _+_, _-_, _≤_}
 use native.Mathlib.Omega.{arith}
 use Rattle.sets.specs.Sets.{valueAt, numberAt, FirstAt}
 use Rattle.sets.proofs.Best.{BestTo, best-first, best-more, firstSum, normal-right}
+use Rattle.sets.proofs.Reduced.{values-near}
 use Rattle.sets.proofs.best_normal.Statement.{statement}
 use Rattle.sets.proofs.best_normal.Tie as tie
 
@@ -32,4 +33,4 @@ returns c ho =
 pub best-normal-spec : {M : Type 1} → statement M
 best-normal-spec =
     tie.close
-    (tie.spec Inv-loop μ-loop (λ c κs. (c .pre .0, c .pre .2 .near)) (λ c. omega arith) loop-holds (λ c κs. let s = c .before .before .before in (s .pre .0, s .pre .2 .near)) (λ c κs. tt) (λ c. omega arith) (λ c. omega arith) loop-again returns)
+    (tie.spec Inv-loop μ-loop (λ c κs. (c .pre .0, values-near (c .pre .2))) (λ c. omega arith) loop-holds (λ c κs. let s = c .before .before .before in (s .pre .0, values-near (s .pre .2))) (λ c κs. tt) (λ c. omega arith) (λ c. omega arith) loop-again returns)

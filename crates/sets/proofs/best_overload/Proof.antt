@@ -5,9 +5,13 @@ use lib.Dec.{lit<}
 use lib.IntN.{ℤ}
 use mir.Syntax.{w64}
 use borrow.Author.Needs.{needs}
+use Rattle.exact.specs.Bounds.{Within}
+use Rattle.exact.proofs.Bounds.{within-le}
 use Rattle.exact.proofs.Held.{known, told}
 use Rattle.sets.specs.Sets.{valueAt, numberAt, OverloadAt}
+use Rattle.magnitudes.specs.Magnitudes.{hoLaneMost}
 use Rattle.sets.proofs.Places.{rank-few}
+use Rattle.sets.proofs.Reduced.{among-most, values-near}
 use Rattle.sets.proofs.Best.{BestTo, best-first, best-more, held, heldSum, overload-right}
 use Rattle.sets.proofs.best_overload.Statement.{statement}
 use Rattle.sets.proofs.best_overload.Tie as tie
@@ -20,11 +24,15 @@ abbrev μ-loop : tie.MeasureT-loop
 μ-loop q ranks hn n ho best₀ o₀ best o = n - o
 
 -- ranks are few
-few : (s : tie.Start Inv-loop μ-loop) (i : ℕ) → i < s .args .n → numberAt (s .args .ranks) i ≤ 5
+few : (s : tie.Start Inv-loop μ-loop) (i : ℕ) → i < s .args .n → numberAt (s .args .ranks) i ≤ 10
 few s i h = let r = rank-few (s .args .q) (s .args .n) (valueAt (s .args .hn)) i in omega (arith, s .pre .2 .each i h)
 
+-- HO is near enough in every lane
+heavy : (s : tie.Start Inv-loop μ-loop) (i : ℕ) → i < s .args .n → Within hoLaneMost (valueAt (s .args .t4) i)
+heavy s i h = within-le (s .pre .4 i h) (among-most (s .args .n) hoLaneMost)
+
 overload-at-requires : tie.Need-overload-at-requires Inv-loop μ-loop
-overload-at-requires c κs = let s = c .before in (s .pre .1, omega arith, few s, s .pre .3 .near, told (known w64 (s .pre .4 0 (s .pre .0)) (lit< tt)) .1)
+overload-at-requires c κs = let s = c .before in (s .pre .1, omega arith, few s, values-near (s .pre .3), told (known w64 (heavy s 0 (s .pre .0)) (lit< tt)) .1)
 
 loop-holds : tie.Need-loop-holds Inv-loop μ-loop
 loop-holds c =
@@ -34,13 +42,13 @@ loop-holds c =
     let v = valueAt (a .hn) in (
       omega arith,
       omega arith,
-      best-first _ _ _ (λ j r a. a .value) (r .result) (subst (λ (x : ℤ). OverloadAt (a .n) (held (a .q) v (a .ranks) 0) v x 0 (r .result)) (known w64 (s .pre .4 0 (s .pre .0)) (lit< tt) .is) (r .ensures)),
+      best-first _ _ _ (λ j r a. a .value) (r .result) (subst (λ (x : ℤ). OverloadAt (a .n) (held (a .q) v (a .ranks) 0) v x 0 (r .result)) (known w64 (heavy s 0 (s .pre .0)) (lit< tt) .is) (r .ensures)),
     )
 
 overload-at-requires-2 : tie.Need-overload-at-requires-2 Inv-loop μ-loop
 overload-at-requires-2 c κs =
     let s = c .before .before .before .before .before in
-    (s .pre .1, omega arith, few s, s .pre .3 .near, told (known w64 (s .pre .4 (c .before .before .loop .o) (omega arith)) (lit< tt)) .1)
+    (s .pre .1, omega arith, few s, values-near (s .pre .3), told (known w64 (heavy s (c .before .before .loop .o) (omega arith)) (lit< tt)) .1)
 
 loop-again : tie.Need-loop-again Inv-loop μ-loop
 loop-again c =
@@ -54,7 +62,7 @@ loop-again c =
       omega arith,
       omega arith,
       best-more _ _ _ (λ j r a. a .value) (l .o) (l .best) (r .result) (c .better .result) (l .inv .2)
-          (subst (λ (x : ℤ). OverloadAt (a .n) (held (a .q) v (a .ranks) (l .o)) v x (l .o) (r .result)) (known w64 (s .pre .4 (l .o) h) (lit< tt) .is) (r .ensures)) (c .better .ensures),
+          (subst (λ (x : ℤ). OverloadAt (a .n) (held (a .q) v (a .ranks) (l .o)) v x (l .o) (r .result)) (known w64 (heavy s (l .o) h) (lit< tt) .is) (r .ensures)) (c .better .ensures),
     )
 
 returns : tie.Need-returns Inv-loop μ-loop

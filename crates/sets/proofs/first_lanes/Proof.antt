@@ -27,8 +27,8 @@ joined-requires c κs =
     let g = l .inv .1 in
     let near : (k : ℕ) → k < l .i → Within factoredMost (valueAt (s .args .t2) k) = λ k h. within-le (s .pre .1 k (omega arith)) (lit≤ tt) in (
       omega arith,
-      lt-of-lt-of-le (gathered-small g) (pow-mono {i = l .i} {j = 5} (omega arith)),
-      gathered-near g factoredMost 4 near (omega arith),
+      lt-of-lt-of-le (gathered-small g) (pow-mono {i = l .i} {j = 10} (omega arith)),
+      gathered-near g factoredMost 9 near (omega arith),
       within-le (told (known w64 (s .pre .1 (l .i) (omega arith)) (lit< tt)) .1) (lit≤ tt),
     )
 
@@ -44,7 +44,7 @@ returns c =
     let l = c .before .loop in
     let all : l .i ≡ s .args .n = omega arith in
     let g = subst (λ (i : ℕ). Gathered i (λ k. ltb (numberAt (s .args .t1) k) (s .args .m)) (valueAt (s .args .t2)) (l .group)) all (l .inv .1) in
-    record { small = gathered-small g; bits = gathered-bits g; sum = g .sum; near = gathered-near g hnLaneMost 5 (s .pre .1) (omega arith) }
+    record { small = gathered-small g; bits = gathered-bits g; sum = g .sum; near = gathered-near g hnLaneMost 10 (s .pre .1) (omega arith) }
 
 pub first-lanes-spec : {M : Type 1} → statement M
 first-lanes-spec =

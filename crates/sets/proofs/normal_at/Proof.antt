@@ -10,7 +10,7 @@ use Rattle.exact.proofs.Ranges.{count-cong}
 use Rattle.model.specs.Lanes.{reduction}
 use Rattle.model.proofs.Sets.{ones-count}
 use Rattle.magnitudes.specs.Magnitudes.{hnLaneMost}
-use Rattle.sets.proofs.Filled.{getD-nothing}
+use Rattle.exact.proofs.Filled.{getD-nothing}
 use Rattle.sets.proofs.normal_at.Statement.{statement}
 use Rattle.sets.proofs.normal_at.Tie as tie
 
@@ -19,7 +19,7 @@ module _ (c : tie.After-struct-told) where
   abbrev r : Kept w64 20 (reduction (ones (c .before .before .before .first-lanes .result .set)))
   r = (_, got w64 (c .before .before .reduction .ok) (c .before .before .reduction .ensures))
 
-  abbrev sum : Kept w64 (5 * hnLaneMost) (c .before .before .before .first-lanes .result .sum)
+  abbrev sum : Kept w64 (10 * hnLaneMost) (c .before .before .before .first-lanes .result .sum)
   sum = (_, known w64 (c .before .before .before .first-lanes .ensures .near) (lit< tt))
 
 mul-value : tie.Need-mul-value
@@ -33,7 +33,7 @@ returns c =
       lane = refl;
       small = f .small;
       bits = f .bits;
-      none = λ i. getD-nothing 5 i 0;
+      none = λ i. getD-nothing 10 i 0;
       value = times (r c .1) (sum c .1) (lit< tt) .is ∙ ap₂ (λ (m : ℕ) (x : ℤ). reduction m *ℤ x) (ones-count n _ (f .small) ∙ count-cong n _ _ (f .bits)) (f .sum);
     }
 

@@ -23,7 +23,7 @@ module _ (c : tie.After-struct-told) where
   abbrev s : tie.Start
   s = c .before .before .before .before .before
 
-  abbrev rest : Kept w64 (5 * factoredMost) (c .before .before .before .before .beside .result .group .sum)
+  abbrev rest : Kept w64 (10 * factoredMost) (c .before .before .before .before .beside .result .group .sum)
   rest = (_, known w64 (c .before .before .before .before .beside .ensures .near) (lit< tt))
 
 -- the sum fits with HO at 20, and would at 18

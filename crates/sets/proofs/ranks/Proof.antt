@@ -2,18 +2,18 @@ use native.Mathlib.Omega.{arith}
 use mathlib.Core.Path.{_≡_}
 use Prim.Native.Nat.{_-_, _≤_}
 use Rattle.sets.specs.Sets.{valueAt, rank}
-use Rattle.sets.proofs.Filled.{FilledTo, filled-none, filled-more}
+use Rattle.exact.proofs.Filled.{FilledTo, filled-none, filled-more}
 use Rattle.sets.proofs.ranks.Statement.{statement}
 use Rattle.sets.proofs.ranks.Tie as tie
 
 abbrev Inv-loop : tie.InvT-loop
-Inv-loop q values n all₀ i₀ all i = (i ≤ n) × FilledTo (λ k x. x ≡ rank q n (valueAt values) k) 5 0 i all
+Inv-loop q values n all₀ i₀ all i = (i ≤ n) × FilledTo (λ k x. x ≡ rank q n (valueAt values) k) 10 0 i all
 
 abbrev μ-loop : tie.MeasureT-loop
 μ-loop q values n all₀ i₀ all i = n - i
 
 loop-holds : tie.Need-loop-holds Inv-loop μ-loop
-loop-holds c = (omega arith, filled-none _ 5 0)
+loop-holds c = (omega arith, filled-none _ 10 0)
 
 rank-requires : tie.Need-rank-requires Inv-loop μ-loop
 rank-requires c κs = let s = c .before .before in (s .pre .0, omega arith, s .pre .1)

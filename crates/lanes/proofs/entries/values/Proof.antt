@@ -6,7 +6,7 @@ use mir.Syntax.{w64}
 use Rattle.exact.proofs.Held.{back}
 use Rattle.lanes.specs.Entries.{chosenIn}
 use Rattle.lanes.specs.declared.entries.Chosen.{Chosen}
-use Rattle.sets.proofs.Filled.{FilledTo, filled-none, filled-more}
+use Rattle.exact.proofs.Filled.{FilledTo, filled-none, filled-more}
 use Rattle.lanes.proofs.entries.values.Statement.{statement}
 use Rattle.lanes.proofs.entries.values.Tie as tie
 

@@ -4,7 +4,7 @@ use native.Mathlib.Omega.{arith}
 use Rattle.model.specs.Answered.{emptyLane}
 use Rattle.lanes.specs.Entries.{chosenIn}
 use Rattle.lanes.specs.Loadings.{laneOf}
-use Rattle.sets.proofs.Filled.{FilledTo, filled-none, filled-more}
+use Rattle.exact.proofs.Filled.{FilledTo, filled-none, filled-more}
 use Rattle.lanes.proofs.traffic.placed.Statement.{statement}
 use Rattle.lanes.proofs.traffic.placed.Tie as tie
 
