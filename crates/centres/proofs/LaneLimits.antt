@@ -192,5 +192,6 @@ module _ {near far : List ℕ} {d : Decks} (fit : DecksFit near far d) where
       second = second-lanes of;
       lanes = all-lanes of;
       unit = ap₂ _*_ (ap₂ (λ (n m : ℕ). n * max 1 m) (first-lanes of) (second-lanes of)) (ap (λ (c : Carriageway). c .g) (sym (of .deck)));
+      apart = let some : 0 < d .g = omega (arith, fit .first .apart) in (subst (λ (c : Carriageway). 0 < c .g) (sym (of .deck)) some, subst (λ (c : Carriageway). 0 < c .g) (sym (of .second)) some);
       each = λ i h. each job of i (omega (arith, all-lanes of));
     }

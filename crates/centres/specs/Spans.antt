@@ -80,4 +80,5 @@ pub record Spanned (job : Job) (a : Across) : Type 0 where
   pub second : a .second ≡ secondLanes job
   pub lanes : a .lanes ≡ lanes job
   pub unit : a .unit ≡ sumUnit job (unit job)
+  pub apart : (0 < job .deck .g) × (0 < job .second .g)
   pub each : (i : ℕ) → i < a .lanes → SpanRight (deckOf job i) (numberOn job i) (getD (a .spans) i noSpan)

@@ -2,10 +2,10 @@
 use mathlib.Core.Path.{_≡_, refl, sym, _∙_, ap, ap₂, subst}
 use mathlib.Core.Bool.{true≢false, _&&_}
 use mathlib.Core.List.{List}
-use Prim.Native.Nat.{ℕ, _-_, _*_, _^_, _<_}
+use Prim.Native.Nat.{ℕ, _-_, _*_, _/_, _^_, _≤_, _<_, max}
 use native.Mathlib.Omega.{arith}
 use lib.Count.{ones}
-use lib.Dec.{eqb}
+use lib.Dec.{ltb, eqb}
 use lib.IntN.{ℤ, pos, _*ℤ_}
 use lib.ListN.{getD}
 use borrow.Author.Tests.{eq-eqb}
@@ -18,39 +18,65 @@ use Rattle.exact.proofs.Choices.{over-cong}
 use Rattle.exact.proofs.Extremes.{extreme-cong}
 use Rattle.exact.proofs.Ranges.{sum-cong, count-none}
 use Rattle.model.specs.Job.{Profile, highway, rural, Job, Live, noTraffic, normal, overload}
-use Rattle.model.specs.Lanes.{bit, reductionFor, lanes}
+use Rattle.model.specs.Lanes.{bit, reductionFor, lanes, otherLanes}
 use Rattle.model.specs.Line.{Kind, HN, HO}
 use Rattle.model.specs.Traffic.{setSum, bestNormal, assigned, factorChoice, besideSum, bestOverload, bestOn, laneEffect}
+use Rattle.exact.proofs.Bridge.{by-test}
 use Rattle.model.proofs.Assignments.{overload-cong}
+use Rattle.model.proofs.Lanes.{deck-spaced}
 use Rattle.model.proofs.LiveSums.{sum-on-cong}
-use Rattle.magnitudes.specs.Magnitudes.{transverseMost}
+use Rattle.magnitudes.specs.Magnitudes.{transverseMost, hnLineMost, hoLineMost, hnLaneMost, hoLaneMost, among}
 use Rattle.centres.specs.Spans.{AcrossFits, Spanned, noSpan}
 use Rattle.centres.specs.declared.Across.{Across}
 use Rattle.sets.specs.Sets.{valueAt, ValuesFit, LoadingRight}
 use Rattle.sets.specs.declared.Loading.{Loading}
-use Rattle.lanes.specs.Entries.{LineEffectsFit, chosenIn}
+use Rattle.lanes.specs.Entries.{LineEffectsFit, LoadsFit, otherIn, times, effectsIn, chosen, chosenIn}
 use Rattle.lanes.specs.Loadings.{effectsOf, ElementRight, LoadingOf}
 use Rattle.lanes.specs.declared.entries.Chosen.{Chosen}
 use Rattle.lanes.specs.declared.traffic.Effects.{Effects}
 use Rattle.lanes.proofs.Elements.{chosen-near, chosen-some, chosen-element}
 
+-- an ordinate times a line effect, by the number of lanes
+hn-among : (n : ℕ) → transverseMost * among n hnLineMost ≡ among n hnLaneMost
+hn-among n = by-test (ltb n 6) (λ t. transverseMost * (if t then hnLineMost else hnLineMost / 2) ≡ (if t then hnLaneMost else hnLaneMost / 2)) (λ _. refl) (λ _. refl)
+
+ho-among : (n : ℕ) → transverseMost * among n hoLineMost ≡ among n hoLaneMost
+ho-among n = by-test (ltb n 6) (λ t. transverseMost * (if t then hoLineMost else hoLineMost / 2) ≡ (if t then hoLaneMost else hoLaneMost / 2)) (λ _. refl) (λ _. refl)
+
 -- in a job whose line effects these are, each lane's chosen element gives its best
-module _ (q : Question) (across : Across) (e : Effects) {b : ℕ} (fit : LineEffectsFit b e) where
+module _ (q : Question) (across : Across) (e : Effects) {b : ℕ} (fit : LoadsFit b across e) where
+  -- the other carriageway's n
+  other-is : {job : Job} → Spanned job across → (i : ℕ) → otherIn (across .first) (across .second) i ≡ otherLanes job i
+  unfolding otherLanes
+  other-is on i = ap₂ (λ (n m : ℕ). if ltb i n then max 1 m else n) (on .first) (on .second)
+
   pub elements : (job : Job) (kind : Kind) → Spanned job across → e ≡ effectsOf job kind → (i : ℕ) → i < across .lanes → ElementRight q job kind i (chosenIn q across e i)
   elements job kind on is i h =
-      subst (λ (e : Effects). ElementRight q job kind i (chosenIn q across e i)) (sym is)
-      (chosen-element q job kind i (getD (across .spans) i noSpan) (on .each i h) (subst (LineEffectsFit b) is fit))
+      let same = ap₂ times (other-is on i) is in
+      subst (λ (e : Effects). ElementRight q job kind i (chosen q (getD (across .spans) i noSpan) e)) (sym same)
+      (chosen-element q job kind i (getD (across .spans) i noSpan) (deck-spaced job i (on .apart)) (on .each i h) (subst (LineEffectsFit (among (across .lanes) b)) same (fit .each i h)))
 
   -- their effects as an array has them
   module _ (v : List ℤ) (are : (i : ℕ) → i < across .lanes → valueAt v i ≡ chosenIn q across e i .value) where
-    pub values-fit : AcrossFits across → ValuesFit q (transverseMost * b) (across .lanes) (valueAt v)
+    pub values-fit : AcrossFits across → ValuesFit q (transverseMost * among (across .lanes) b) (across .lanes) (valueAt v)
     values-fit fits = record {
-      some = λ i h. subst (NoBetter q _) (sym (are i h)) (chosen-some q (getD (across .spans) i noSpan) e (fits .spans i h) fit);
-      near = λ i h. subst (Within (transverseMost * b)) (sym (are i h)) (chosen-near q (getD (across .spans) i noSpan) e (fits .spans i h) fit);
+      some = λ i h. subst (NoBetter q _) (sym (are i h)) (chosen-some q (getD (across .spans) i noSpan) (effectsIn across e i) (fits .spans i h) (fit .each i h));
+      near = λ i h. subst (Within (transverseMost * among (across .lanes) b)) (sym (are i h)) (chosen-near q (getD (across .spans) i noSpan) (effectsIn across e i) (fits .spans i h) (fit .each i h));
     }
 
     pub effects : (job : Job) (kind : Kind) → Spanned job across → e ≡ effectsOf job kind → (i : ℕ) → i < across .lanes → valueAt v i ≡ laneEffect q job kind i
     effects job kind on is i h = are i h ∙ elements job kind on is i h .value
+
+-- the values of a kind by the number of lanes
+pub hn-values : (q : Question) (across : Across) (e : Effects) → LoadsFit hnLineMost across e → (v : List ℤ) → ((i : ℕ) → i < across .lanes → valueAt v i ≡ chosenIn q across e i .value) → AcrossFits across → ValuesFit q (among (across .lanes) hnLaneMost) (across .lanes) (valueAt v)
+hn-values q across e fit v are fits = subst (λ (b : ℕ). ValuesFit q b (across .lanes) (valueAt v)) (hn-among (across .lanes)) (values-fit q across e fit v are fits)
+
+pub ho-values : (q : Question) (across : Across) (e : Effects) → LoadsFit hoLineMost across e → (v : List ℤ) → ((i : ℕ) → i < across .lanes → valueAt v i ≡ chosenIn q across e i .value) → AcrossFits across → ValuesFit q (among (across .lanes) hoLaneMost) (across .lanes) (valueAt v)
+ho-values q across e fit v are fits = subst (λ (b : ℕ). ValuesFit q b (across .lanes) (valueAt v)) (ho-among (across .lanes)) (values-fit q across e fit v are fits)
+
+-- one to ten lanes
+pub some-lanes : {across : Across} → AcrossFits across → (0 < across .lanes) × (across .lanes ≤ 10)
+some-lanes fits = (omega (arith, fits .both, fits .some), omega (arith, fits .both, fits .few, fits .secondFew))
 
 -- ---- the same of equal values
 set-sum-cong : (r : ℕ → ℤ) (n set : ℕ) (f g : ℕ → ℤ) → ((i : ℕ) → i < n → f i ≡ g i) → setSum r n f set ≡ setSum r n g set

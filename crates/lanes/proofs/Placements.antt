@@ -90,7 +90,7 @@ set-of (l ∷ rest) test h =
     ap₂ (λ (a b : ℕ). a + 2 * b) (h 0 (omega arith)) (set-of rest (λ i. test (suc i)) (λ i p. h (suc i) (omega arith)))
     ∙ sym (number-low (length rest) test)
 
-module _ (best : Loading) (n : ℕ) (hn over : ℕ → Chosen) (all : List Lane) (small : best .set < 2 ^ n) (few : n ≤ 5) (apart : bit (best .set) (best .lane) ≡ false) (lane : (best .lane < n) ⊎ (best .lane ≡ 5))
+module _ (best : Loading) (n : ℕ) (hn over : ℕ → Chosen) (all : List Lane) (small : best .set < 2 ^ n) (few : n ≤ 10) (apart : bit (best .set) (best .lane) ≡ false) (lane : (best .lane < n) ⊎ (best .lane ≡ 10))
     (placed : LanesPlaced best n hn over all) where
   abbrev set : ℕ
   set = best .set
@@ -102,31 +102,31 @@ module _ (best : Loading) (n : ℕ) (hn over : ℕ → Chosen) (all : List Lane)
   abbrev loaded : ℕ → Bool
   loaded i = if eqb i o then true else bit set i
 
-  outside : (i : ℕ) → n ≤ i → i < 5 → eqb i o ≡ false
+  outside : (i : ℕ) → n ≤ i → i < 10 → eqb i o ≡ false
   outside i h l = ne-eqb i o (λ e. elim lane [ inl p ↦ omega arith | inr p ↦ omega arith ])
 
-  number-is : setOf all ≡ setNumber 5 loaded
+  number-is : setOf all ≡ setNumber 10 loaded
   number-is =
-      let five = placed .five in
+      let ten = placed .ten in
       set-of all loaded (λ i h. elim (decLe n i) [
         | yes l ↦ ap (λ (x : Lane). entryBit (x .entry)) (placed .past i l) ∙ sym (ap₂ (λ (a b : Bool). if (if a then true else b) then 1 else 0) (outside i l (omega arith)) (bit-past n set i small l))
         | no l ↦ ap (λ (x : Lane). entryBit (x .entry)) (placed .each i (omega arith)) ∙ loaded-by (hn i) (over i) (numberAt (best .factors) i) (eqb i o) (bit set i)
       ])
-      ∙ ap (λ (m : ℕ). setNumber m loaded) five
+      ∙ ap (λ (m : ℕ). setNumber m loaded) ten
 
-  whole : setNumber 5 (bit set) ≡ set
-  whole = set-number 5 set (lt-of-lt-of-le small (pow-mono {i = n} {j = 5} few))
+  whole : setNumber 10 (bit set) ≡ set
+  whole = set-number 10 set (lt-of-lt-of-le small (pow-mono {i = n} {j = 10} few))
 
-  pub loaded-set : setOf all ≡ (if ltb o 5 then set + 2 ^ o else set)
+  pub loaded-set : setOf all ≡ (if ltb o 10 then set + 2 ^ o else set)
   loaded-set =
       number-is
-      ∙ by-test (ltb o 5) (λ t. setNumber 5 loaded ≡ (if t then set + 2 ^ o else set))
-      (λ t. number-with 5 o (bit set) (ltb-true o 5 t) apart ∙ ap (λ (m : ℕ). m + 2 ^ o) whole)
-      (λ t. number-cong 5 loaded (bit set) (λ i l. ap (λ (t : Bool). if t then true else bit set i) (ne-eqb i o (λ e. let h = ltb-false o 5 t in omega arith))) ∙ whole)
+      ∙ by-test (ltb o 10) (λ t. setNumber 10 loaded ≡ (if t then set + 2 ^ o else set))
+      (λ t. number-with 10 o (bit set) (ltb-true o 10 t) apart ∙ ap (λ (m : ℕ). m + 2 ^ o) whole)
+      (λ t. number-cong 10 loaded (bit set) (λ i l. ap (λ (t : Bool). if t then true else bit set i) (ne-eqb i o (λ e. let h = ltb-false o 10 t in omega arith))) ∙ whole)
 
 -- ---- in a job
-module _ (q : Question) (job : Job) (live : Live) (across : Across) (dynamic : ℕ) (best : Loading) (hn ho : ℕ → Chosen) (f : LoadingOf q job live across dynamic best hn ho) (few : across .lanes ≤ 5)
-    (x : Extreme) (value : x .value ≡ effectOf q dynamic (best .value) (across .unit)) (set : x .placement .set ≡ (if ltb (best .lane) 5 then best .set + 2 ^ best .lane else best .set))
+module _ (q : Question) (job : Job) (live : Live) (across : Across) (dynamic : ℕ) (best : Loading) (hn ho : ℕ → Chosen) (f : LoadingOf q job live across dynamic best hn ho) (few : across .lanes ≤ 10)
+    (x : Extreme) (value : x .value ≡ effectOf q dynamic (best .value) (across .unit)) (set : x .placement .set ≡ (if ltb (best .lane) 10 then best .set + 2 ^ best .lane else best .set))
     (as-found : LanesPlaced best (across .lanes) hn ho (x .placement .lanes)) where
   abbrev at : ℕ
   at = best .lane
@@ -177,7 +177,7 @@ module _ (q : Question) (job : Job) (live : Live) (across : Across) (dynamic : �
         kinds = subst (λ (m : ℕ). KindsFit (job .profile) live m (placedLanes job HO (x .placement))) (sym (counted .0)) (subst (KindsFit (job .profile) live (countTo (lanes job) (bit (best .set)))) (sym (counted .1)) (f .loading .kinds));
         factors = placed-factors q job live (x .placement) (best .set) (λ i. eqb i at) factor under-hn under-ho shown (f .loading .factors);
         sum = placed-sum q job live (x .placement) (best .set) (λ i. eqb i at) factor under-hn under-ho shown ∙ sym (f .loading .value) ∙ best-is;
-        set = set ∙ sym (loaded-set best (lanes job) hn ho (x .placement .lanes) (f .loading .small) (subst (λ (n : ℕ). n ≤ 5) (f .spanned .lanes) few) (f .loading .apart) (f .loading .lane) placed);
+        set = set ∙ sym (loaded-set best (lanes job) hn ho (x .placement .lanes) (f .loading .small) (subst (λ (n : ℕ). n ≤ 10) (f .spanned .lanes) few) (f .loading .apart) (f .loading .lane) placed);
         onDeck = λ i h. ap (λ (y : Lane). y .entry) (placed .past i h);
         idle = λ i e. elim (decLe (lanes job) i) [
           | yes l ↦ placed .past i l

@@ -41,9 +41,9 @@ laneBy hn over factor isHo inSet =
 abbrev pub laneOf : Loading → (i : ℕ) → (hn over : Chosen) → Lane
 laneOf best i hn over = laneBy hn over (numberAt (best .factors) i) (eqb i (best .lane)) (bit (best .set) i)
 
--- n lanes by a loading, and unloaded ones to five
+-- n lanes by a loading, and unloaded ones to ten
 pub record LanesPlaced (best : Loading) (n : ℕ) (hn over : ℕ → Chosen) (lanes : List Lane) : Type 0 where
-  pub five : length lanes ≡ 5
+  pub ten : length lanes ≡ 10
   pub each : (i : ℕ) → i < n → getD lanes i emptyLane ≡ laneOf best i (hn i) (over i)
   pub past : (i : ℕ) → n ≤ i → getD lanes i emptyLane ≡ emptyLane
 

@@ -18,7 +18,7 @@ ghost use Rattle.model.specs.Line.{HN, HO};
 ghost use Rattle.model.specs.Traffic.{effectOf};
 ghost use Rattle.magnitudes.specs.Magnitudes.{hnLineMost, hoLineMost, sumMost, trafficMost};
 ghost use Rattle.centres.specs.Spans.{SpanFits, AcrossFits, Spanned};
-ghost use Rattle.lanes.specs.Entries.{LineEffectsFit, chosen, chosenIn};
+ghost use Rattle.lanes.specs.Entries.{LineEffectsFit, LoadsFit, chosen, chosenIn};
 ghost use Rattle.lanes.specs.Loadings.{effectsOf, laneOf, LanesPlaced, LoadingOf, TrafficPlaced};
 
 // Raising and lowering line effects of a kind.
@@ -29,7 +29,7 @@ pub struct Effects {
 
 // Lane i of a placement: HO in its lane, HN where the set has it, with its factor.
 fn lane(q: Question, span: Span, best: Loading, i: usize, hn: Effects, ho: Effects) -> Lane
-    requires { ⌜ (i < 5) × SpanFits span × LineEffectsFit hoLineMost hn × LineEffectsFit hoLineMost ho ⌝ }
+    requires { ⌜ (i < 10) × SpanFits span × LineEffectsFit hoLineMost hn × LineEffectsFit hoLineMost ho ⌝ }
     ensures { λ r. ⌜ r ≡ laneOf best i (chosen q span hn) (chosen q span ho) ⌝ }
 {
     if i == best.lane {
@@ -58,8 +58,8 @@ fn lane(q: Question, span: Span, best: Loading, i: usize, hn: Effects, ho: Effec
 }
 
 // The lanes of a loading's placement.
-fn placed(q: Question, across: Across, best: Loading, hn: Effects, ho: Effects) -> [Lane; 5]
-    requires { ⌜ AcrossFits across × LineEffectsFit hoLineMost hn × LineEffectsFit hoLineMost ho ⌝ }
+fn placed(q: Question, across: Across, best: Loading, hn: Effects, ho: Effects) -> [Lane; 10]
+    requires { ⌜ AcrossFits across × LoadsFit hoLineMost across hn × LoadsFit hoLineMost across ho ⌝ }
     ensures { λ r. ⌜ LanesPlaced best (across .lanes) (chosenIn q across hn) (chosenIn q across ho) r ⌝ }
 {
     let none = Lane {
@@ -67,9 +67,11 @@ fn placed(q: Question, across: Across, best: Loading, hn: Effects, ho: Effects) 
         centre: 0,
         factor: 0,
     };
-    let mut lanes = [none; 5];
+    let mut lanes = [none; 10];
     for i in 0..across.lanes {
-        let l = lane(q, across.spans[i], best, i, hn, ho);
+        let light = entries::effects_in(across, hn, i);
+        let heavy = entries::effects_in(across, ho, i);
+        let l = lane(q, across.spans[i], best, i, light, heavy);
         lanes[i] = l;
     }
     lanes
@@ -77,7 +79,7 @@ fn placed(q: Question, across: Across, best: Loading, hn: Effects, ho: Effects) 
 
 // 3 X / 800000 rounded, of a sum times d before the dynamic factor.
 fn value(q: Question, dynamic: usize, sum: i64, d: usize) -> i64
-    requires { ⌜ (1000 ≤ dynamic) × (dynamic ≤ 1300) × (10 ≤ d) × (d ≤ 250) × Within sumMost sum ⌝ }
+    requires { ⌜ (1000 ≤ dynamic) × (dynamic ≤ 1300) × (10 ≤ d) × (d ≤ 1250) × Within sumMost sum ⌝ }
     ensures { λ r. ⌜ (r ≡ effectOf q dynamic sum d) × Within trafficMost r ⌝ }
 {
     let x = 3 * ((dynamic as i64) * sum);
@@ -94,7 +96,7 @@ fn found(
     hn: Effects,
     ho: Effects,
 ) -> Extreme
-    requires { ⌜ AcrossFits across × (1000 ≤ dynamic) × (dynamic ≤ 1300) × LineEffectsFit hoLineMost hn × LineEffectsFit hoLineMost ho × (best .set < 32) × Within sumMost (best .value) ⌝ }
+    requires { ⌜ AcrossFits across × (1000 ≤ dynamic) × (dynamic ≤ 1300) × LoadsFit hoLineMost across hn × LoadsFit hoLineMost across ho × (best .set < 1024) × Within sumMost (best .value) ⌝ }
     ensures { λ r. ⌜ Within trafficMost (r .value) × ((job : Job) (live : Live) → LoadingOf q job live across dynamic best (chosenIn q across hn) (chosenIn q across ho) → TrafficPlaced q job live r) ⌝ }
 {
     let lanes = placed(q, across, best, hn, ho);
@@ -112,7 +114,7 @@ pub struct Extremes {
 
 // The loads of a highway. Normal: the best set of lanes under HN. Overload: the best lane under HO, others under HN and their factors.
 fn highway(q: Question, across: Across, dynamic: usize, hn: Effects, ho: Effects) -> Extremes
-    requires { ⌜ AcrossFits across × (1000 ≤ dynamic) × (dynamic ≤ 1300) × LineEffectsFit hnLineMost hn × LineEffectsFit hoLineMost ho ⌝ }
+    requires { ⌜ AcrossFits across × (1000 ≤ dynamic) × (dynamic ≤ 1300) × LoadsFit hnLineMost across hn × LoadsFit hoLineMost across ho ⌝ }
     ensures { λ r. ⌜ Within trafficMost (r .normal .value) × Within trafficMost (r .overload .value) × ((job : Job) → Spanned job across → job .profile ≡ highwayLoads → dynamic ≡ job .dynamic q → hn ≡ effectsOf job HN → ho ≡ effectsOf job HO → TrafficPlaced q job normal (r .normal) × TrafficPlaced q job overload (r .overload)) ⌝ }
 {
     let light = entries::values(q, across, hn);
@@ -127,7 +129,7 @@ fn highway(q: Question, across: Across, dynamic: usize, hn: Effects, ho: Effects
 
 // A rural bridge. Normal: its one lane under 0.85 HN. Overload: no lane.
 fn rural(q: Question, across: Across, dynamic: usize, hn: Effects) -> Extremes
-    requires { ⌜ AcrossFits across × (across .lanes ≡ 1) × (1000 ≤ dynamic) × (dynamic ≤ 1300) × LineEffectsFit hnLineMost hn ⌝ }
+    requires { ⌜ AcrossFits across × (across .lanes ≡ 1) × (1000 ≤ dynamic) × (dynamic ≤ 1300) × LoadsFit hnLineMost across hn ⌝ }
     ensures { λ r. ⌜ Within trafficMost (r .normal .value) × Within trafficMost (r .overload .value) × ((job : Job) → Spanned job across → job .profile ≡ ruralLoads → dynamic ≡ job .dynamic q → hn ≡ effectsOf job HN → TrafficPlaced q job normal (r .normal) × TrafficPlaced q job overload (r .overload)) ⌝ }
 {
     let light = entries::values(q, across, hn);
@@ -147,11 +149,11 @@ pub fn both(
     hn: Effects,
     ho: Effects,
 ) -> Extremes
-    requires { ⌜ AcrossFits across × (profileOf edition ≡ ruralLoads → across .lanes ≡ 1) × (1000 ≤ dynamic) × (dynamic ≤ 1300) × LineEffectsFit hnLineMost hn × LineEffectsFit hoLineMost ho ⌝ }
+    requires { ⌜ AcrossFits across × (profileOf edition ≡ ruralLoads → across .lanes ≡ 1) × (1000 ≤ dynamic) × (dynamic ≤ 1300) × LoadsFit hnLineMost across hn × LoadsFit hoLineMost across ho ⌝ }
     ensures { λ r. ⌜ Within trafficMost (r .normal .value) × Within trafficMost (r .overload .value) × ((job : Job) → Spanned job across → job .profile ≡ profileOf edition → dynamic ≡ job .dynamic q → hn ≡ effectsOf job HN → ho ≡ effectsOf job HO → TrafficPlaced q job normal (r .normal) × TrafficPlaced q job overload (r .overload)) ⌝ }
 {
     match edition {
-        Edition::First | Edition::Second => highway(q, across, dynamic, hn, ho),
+        Edition::First | Edition::Second | Edition::Third => highway(q, across, dynamic, hn, ho),
         Edition::Fourth => rural(q, across, dynamic, hn),
     }
 }

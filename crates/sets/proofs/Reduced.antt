@@ -20,6 +20,9 @@ use Rattle.sets.specs.Sets.{ValuesFit}
 pub among-most : (n most : ℕ) → among n most ≤ most
 among-most n most = by-test (ltb n 6) (λ t. (if t then most else most / 2) ≤ most) (λ _. omega arith) (λ _. omega arith)
 
+pub among-wider : (n : ℕ) {most more : ℕ} → most ≤ more → among n most ≤ among n more
+among-wider n {most} {more} h = by-test (ltb n 6) (λ t. (if t then most else most / 2) ≤ (if t then more else more / 2)) (λ _. h) (λ _. omega arith)
+
 pub values-near : {q : Question} {most n : ℕ} {v : ℕ → ℤ} → ValuesFit q (among n most) n v → (i : ℕ) → i < n → Within most (v i)
 values-near {most = most} {n = n} fit i h = within-le (fit .near i h) (among-most n most)
 

@@ -8,6 +8,7 @@ use Rattle.exact.proofs.Held.{known, back, told}
 use Rattle.model.specs.Traffic.{effectOf}
 use Rattle.magnitudes.specs.Magnitudes.{trafficMost}
 use Rattle.lanes.specs.Entries.{chosenIn}
+use Rattle.lanes.proofs.Given.{some-lanes}
 use Rattle.lanes.proofs.Placements.{traffic-placed}
 use Rattle.lanes.proofs.traffic.found.Statement.{statement}
 use Rattle.lanes.proofs.traffic.found.Tie as tie
@@ -22,7 +23,7 @@ returns c =
     let v : toZ w64 (ofZ w64 (c .value .result)) ≡ effectOf (a .q) (a .dynamic) (a .best .value) (a .across .unit) =
     back w64 (c .value .ok) (c .value .ensures .0 ∙ ap (λ (z : ℤ). effectOf (a .q) (a .dynamic) z (a .across .unit)) (known w64 (s .pre .6) (lit< tt) .is)) in (
       subst (Within trafficMost) (sym (back w64 (c .value .ok) refl)) (c .value .ensures .1),
-      λ job live f. traffic-placed (a .q) job live (a .across) (a .dynamic) (a .best) (chosenIn (a .q) (a .across) (a .hn)) (chosenIn (a .q) (a .across) (a .ho)) f (s .pre .0 .few) _ v (c .before .before .loaded .ensures) (c .before .before .before .placed .ensures),
+      λ job live f. traffic-placed (a .q) job live (a .across) (a .dynamic) (a .best) (chosenIn (a .q) (a .across) (a .hn)) (chosenIn (a .q) (a .across) (a .ho)) f (some-lanes (s .pre .0) .1) _ v (c .before .before .loaded .ensures) (c .before .before .before .placed .ensures),
     )
 
 pub found-spec : {M : Type 1} → statement M

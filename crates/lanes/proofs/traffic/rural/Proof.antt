@@ -11,24 +11,25 @@ use Rattle.exact.proofs.Held.{Kept, known, told}
 use Rattle.model.specs.Job.{rural, normal, overload}
 use Rattle.model.specs.Line.{HN, HO}
 use Rattle.model.specs.Traffic.{laneEffect}
-use Rattle.magnitudes.specs.Magnitudes.{hnLaneMost, hoLineMost}
+use Rattle.magnitudes.specs.Magnitudes.{hnLaneMost, hoLineMost, among}
 use Rattle.sets.specs.Sets.{valueAt, ValuesFit, LoadingRight}
-use Rattle.lanes.specs.Entries.{LineEffectsFit, chosenIn}
-use Rattle.lanes.proofs.Elements.{wider}
-use Rattle.lanes.proofs.Given.{values-fit, elements, effects, hn-loading}
+use Rattle.sets.proofs.Reduced.{values-near}
+use Rattle.lanes.specs.Entries.{LoadsFit, chosenIn}
+use Rattle.lanes.proofs.Elements.{wider-loads}
+use Rattle.lanes.proofs.Given.{elements, effects, hn-values, some-lanes, hn-loading}
 use Rattle.lanes.proofs.traffic.rural.Statement.{statement}
 use Rattle.lanes.proofs.traffic.rural.Tie as tie
 
-hn-wide : (s : tie.Start) → LineEffectsFit hoLineMost (s .args .hn)
-hn-wide s = wider (lit≤ tt) (s .pre .4)
+hn-wide : (s : tie.Start) → LoadsFit hoLineMost (s .args .across) (s .args .hn)
+hn-wide s = wider-loads (lit≤ tt) (s .pre .4)
 
 -- the lane's effect
 module _ (c : tie.After-values) where
-  light : ValuesFit (c .before .args .q) hnLaneMost (c .before .args .across .lanes) (valueAt (c .values .result))
-  light = let s = c .before in values-fit (s .args .q) (s .args .across) (s .args .hn) (s .pre .4) (c .values .result) (c .values .ensures) (s .pre .0)
+  light : ValuesFit (c .before .args .q) (among (c .before .args .across .lanes) hnLaneMost) (c .before .args .across .lanes) (valueAt (c .values .result))
+  light = let s = c .before in hn-values (s .args .q) (s .args .across) (s .args .hn) (s .pre .4) (c .values .result) (c .values .ensures) (s .pre .0)
 
   abbrev lane : Kept w64 hnLaneMost (valueAt (c .values .result) 0)
-  lane = (_, known w64 (light .near 0 (c .before .pre .0 .some)) (lit< tt))
+  lane = (_, known w64 (values-near light 0 (some-lanes (c .before .pre .0) .0)) (lit< tt))
 
 -- both loadings
 module _ (c : tie.After-no-lane) where
@@ -42,10 +43,10 @@ module _ (c : tie.After-no-lane) where
   one-right ho =
       let is = sym (lane v .1 .is) in
       subst (λ (n : ℕ). LoadingRight (s .args .q) rural normal n (valueAt (v .values .result)) ho (c .before .one-lane .result)) (sym (s .pre .1))
-      (c .before .one-lane .ensures (s .args .q) (valueAt (v .values .result)) ho is (subst (NoBetter (s .args .q) (pos 0)) is (light v .some 0 (s .pre .0 .some))))
+      (c .before .one-lane .ensures (s .args .q) (valueAt (v .values .result)) ho is (subst (NoBetter (s .args .q) (pos 0)) is (light v .some 0 (some-lanes (s .pre .0) .0))))
 
   none-right : (hn ho : ℕ → ℤ) → LoadingRight (s .args .q) rural overload (s .args .across .lanes) hn ho (c .no-lane .result)
-  none-right hn ho = c .no-lane .ensures .0 (s .args .q) (s .args .across .lanes) hn ho (s .pre .0 .few)
+  none-right hn ho = c .no-lane .ensures .0 (s .args .q) (s .args .across .lanes) hn ho (some-lanes (s .pre .0) .1)
 
 returns : tie.Need-returns
 returns c =
@@ -62,9 +63,9 @@ returns c =
           let ho = laneEffect (a .q) job HO in
           let none = none-right both (valueAt (hn .result)) ho in (
             c .before .found .ensures .1 job normal
-                (hn-loading (a .q) job rural normal (a .across) (a .dynamic) (both .before .one-lane .result) under under (valueAt (hn .result)) (st .pre .0 .some) on loads factor (one-right both ho) (one-right both ho .kinds) light-is under-hn),
+                (hn-loading (a .q) job rural normal (a .across) (a .dynamic) (both .before .one-lane .result) under under (valueAt (hn .result)) (some-lanes (st .pre .0) .0) on loads factor (one-right both ho) (one-right both ho .kinds) light-is under-hn),
             c .found2 .ensures .1 job overload
-                (hn-loading (a .q) job rural overload (a .across) (a .dynamic) (both .no-lane .result) under under (valueAt (hn .result)) (st .pre .0 .some) on loads factor none (none .kinds .1) light-is under-hn),
+                (hn-loading (a .q) job rural overload (a .across) (a .dynamic) (both .no-lane .result) under under (valueAt (hn .result)) (some-lanes (st .pre .0) .0) on loads factor none (none .kinds .1) light-is under-hn),
           ),
     )
 
@@ -72,13 +73,13 @@ found-requires : tie.Need-found-requires
 found-requires c κs =
     let st = s c in
     let r = one-right c (λ i. pos 0) in
-    (st .pre .0, st .pre .2, st .pre .3, hn-wide st, hn-wide st, lt-of-lt-of-le (r .small) (pow-mono {i = st .args .across .lanes} {j = 5} (st .pre .0 .few)), r .near)
+    (st .pre .0, st .pre .2, st .pre .3, hn-wide st, hn-wide st, lt-of-lt-of-le (r .small) (pow-mono {i = st .args .across .lanes} {j = 10} (some-lanes (st .pre .0) .1)), r .near)
 
 found-requires-2 : tie.Need-found-requires-2
 found-requires-2 c κs =
     let st = s (c .before) in
     let r = none-right (c .before) (λ i. pos 0) (λ i. pos 0) in
-    (st .pre .0, st .pre .2, st .pre .3, hn-wide st, hn-wide st, lt-of-lt-of-le (r .small) (pow-mono {i = st .args .across .lanes} {j = 5} (st .pre .0 .few)), r .near)
+    (st .pre .0, st .pre .2, st .pre .3, hn-wide st, hn-wide st, lt-of-lt-of-le (r .small) (pow-mono {i = st .args .across .lanes} {j = 10} (some-lanes (st .pre .0) .1)), r .near)
 
 pub rural-spec : {M : Type 1} → statement M
 rural-spec = tie.close (tie.spec (λ c κs. (c .pre .0, hn-wide c)) (λ c. search needs) (λ c κs. told (lane (c .before) .1) .1) (λ c κs. search needs) found-requires found-requires-2 returns)
