@@ -17,20 +17,24 @@ at st p h = omega (arith, long st)
 
 second-width-requires : tie.Need-second-width-requires
 second-width-requires c κs third =
-    let st = c .before .before .before .before .before .before .before .before .before .before .before in
-    edition-words (headerOf (st .args .s .now)) (sym (c .before .before .before .before .before .before .before .before .before .edition .ensures) ∙ third) (st .pre)
+    let spaced = c .before .before .before .before .before .before in
+    let named = spaced .before .before .before in
+    let st = named .before .before in
+    edition-words (headerOf (st .args .s .now)) (sym (named .edition .ensures) ∙ third) (st .pre)
 
 returns : tie.Need-returns
 returns c =
+    let valued = c .before .before .before .before in
+    let spaced = valued .before .before .before in
     rw (
       c .second-width .ensures,
-      c .before .before .before .before .before .before .before .before .before .before .edition .ensures,
-      c .before .before .before .before .before .before .before .before .before .count .ensures .0,
-      c .before .before .before .before .before .before .before .before .count2 .ensures .0,
-      c .before .before .before .before .before .before .before .count3 .ensures .0,
-      c .before .before .before .before .before .before .count4 .ensures .0,
-      c .before .before .before .before .before .count5 .ensures .0,
-      c .before .before .before .before .count6 .ensures .0,
+      spaced .before .before .before .edition .ensures,
+      spaced .before .before .count .ensures .0,
+      spaced .before .count2 .ensures .0,
+      spaced .count3 .ensures .0,
+      valued .before .before .count4 .ensures .0,
+      valued .before .count5 .ensures .0,
+      valued .count6 .ensures .0,
       c .before .before .before .count7 .ensures .0,
       c .before .before .count8 .ensures .0,
       c .before .count9 .ensures .0,
