@@ -1,5 +1,5 @@
 -- Refusal 1 by its three tests, and the words that an edition calls for.
-use mathlib.Core.Path.{_≡_, refl, _∙_, ap, ap₂}
+use mathlib.Core.Path.{_≡_, refl, _∙_, ap}
 use mathlib.Core.Bool.{Bool, true, false, _&&_}
 use mathlib.Core.Option.{some}
 use mathlib.Core.List.{List, _∷_}
@@ -14,7 +14,7 @@ use Rattle.words.specs.Fields.{free}
 use Rattle.model.specs.Format.{headerOf, is, editionNumber, editionOf, tableCounts, words}
 use Rattle.model.specs.Refusals.{unless, fault1}
 use Rattle.model.specs.declared.Edition.{Edition}
-use Rattle.model.specs.declared.Edition.the-variants.{First, Second, Fourth}
+use Rattle.model.specs.declared.Edition.the-variants.{First, Second, Third, Fourth}
 use Rattle.model.specs.declared.Part.the-variants.{Head}
 
 module _ (b : List ℕ) where
@@ -55,9 +55,9 @@ abbrev pub calls : Edition → ℕ → ℤ → Bool
 calls e n x = leb (4 * (length (free ∷ free ∷ free ∷ free ∷ free ∷ free ∷ free ∷ tableCounts e) * 1)) n && is (editionNumber e) x
 
 module _ (n : ℕ) (x : ℤ) where
-  -- by the two tests of word 0
-  by-tests : {s t : Bool} → is 4 x ≡ s → is 2 x ≡ t → calls (editionOf x) n x ≡ calls (if s then Fourth else (if t then Second else First)) n x
-  by-tests e f = ap₂ (λ (s t : Bool). calls (if s then Fourth else (if t then Second else First)) n x) e f
+  -- by the three tests of word 0
+  by-tests : {s t u : Bool} → is 4 x ≡ s → is 3 x ≡ t → is 2 x ≡ u → calls (editionOf x) n x ≡ calls (if s then Fourth else (if t then Third else (if u then Second else First))) n x
+  by-tests e f g = rw (e, f, g) refl
 
   -- a test that holds drops out
   true-drops : (m : ℕ) (t : Bool) → is m x ≡ true → (t && is m x) ≡ t
@@ -65,10 +65,13 @@ module _ (n : ℕ) (x : ℤ) where
   true-drops m false e = refl
 
   pub calls-fourth : is 4 x ≡ true → calls (editionOf x) n x ≡ leb 44 n
-  calls-fourth e = by-tests e refl ∙ true-drops 4 (leb 44 n) e
+  calls-fourth e = by-tests e refl refl ∙ true-drops 4 (leb 44 n) e
 
-  pub calls-second : is 4 x ≡ false → is 2 x ≡ true → calls (editionOf x) n x ≡ leb 48 n
-  calls-second e f = by-tests e f ∙ true-drops 2 (leb 48 n) f
+  pub calls-third : is 4 x ≡ false → is 3 x ≡ true → calls (editionOf x) n x ≡ leb 52 n
+  calls-third e f = by-tests e f refl ∙ true-drops 3 (leb 52 n) f
 
-  pub calls-first : is 4 x ≡ false → is 2 x ≡ false → 40 ≤ n → calls (editionOf x) n x ≡ is 1 x
-  calls-first e f h = by-tests e f ∙ ap (λ (t : Bool). t && is 1 x) (le-leb 40 n h)
+  pub calls-second : is 4 x ≡ false → is 3 x ≡ false → is 2 x ≡ true → calls (editionOf x) n x ≡ leb 48 n
+  calls-second e f g = by-tests e f g ∙ true-drops 2 (leb 48 n) g
+
+  pub calls-first : is 4 x ≡ false → is 3 x ≡ false → is 2 x ≡ false → 40 ≤ n → calls (editionOf x) n x ≡ is 1 x
+  calls-first e f g h = by-tests e f g ∙ ap (λ (t : Bool). t && is 1 x) (le-leb 40 n h)

@@ -44,6 +44,9 @@ fn has_edition(s: &[u8]) -> bool
     if edition == model::RURAL_EDITION {
         return 4 * model::RURAL_HEADER_WORDS <= s.len();
     }
+    if edition == model::THIRD_EDITION {
+        return 4 * model::THIRD_HEADER_WORDS <= s.len();
+    }
     if edition == model::SECOND_EDITION {
         return 4 * model::SECOND_HEADER_WORDS <= s.len();
     }
@@ -144,12 +147,18 @@ fn line(s: &[u8], head: Header) -> Finding
     in_job(head, Part::Line, own)
 }
 
-// 4: an ordinate of either line outside its limits.
+// 4: an ordinate of the line or across it outside its limits.
 fn ordinates(s: &[u8], head: Header) -> Finding
     requires { ⌜ Sized (now s) head ⌝ }
     ensures { λ r. ⌜ findingOf r ≡ fault4 (now (s .entry)) ⌝ }
 {
-    or_else(line(s, head), fault(s, head, Part::Transverse))
+    or_else(
+        line(s, head),
+        or_else(
+            fault(s, head, Part::Transverse),
+            fault(s, head, Part::SecondTransverse),
+        ),
+    )
 }
 
 // 5: a piece of the job's line.

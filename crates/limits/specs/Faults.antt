@@ -2,7 +2,7 @@
 use Prim.Native.Nat.{ℕ}
 use mathlib.Core.Option.{Option, none, some}
 use Rattle.model.specs.declared.Part.{Part}
-use Rattle.model.specs.declared.Part.the-variants.{Head, Line, Transverse, Effects, Rows, Records}
+use Rattle.model.specs.declared.Part.the-variants.{Head, Line, Transverse, SecondTransverse, Effects, Rows, Records}
 use Rattle.limits.specs.declared.Fault.{Fault}
 use Rattle.limits.specs.declared.Fault.the-variants.{At, Clear}
 
@@ -16,6 +16,7 @@ abbrev pub AfterHeader : Part → Type 0
 AfterHeader Head = ⊥
 AfterHeader Line = Unit {0}
 AfterHeader Transverse = Unit {0}
+AfterHeader SecondTransverse = Unit {0}
 AfterHeader Effects = Unit {0}
 AfterHeader Rows = Unit {0}
 AfterHeader Records = Unit {0}

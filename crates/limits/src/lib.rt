@@ -10,9 +10,9 @@ ghost use Rattle.exact.specs.Bounds.{Within};
 ghost use Rattle.exact.specs.Choice.{if_then_else_, between};
 ghost use Rattle.words.specs.Words.{wordAt, wide};
 ghost use Rattle.words.specs.Fields.{Field, admits, misfitFrom, itemFrom, misfit};
-ghost use Rattle.model.specs.Format.{profileOf, kilonewtons, newtons, effectUnit, is, pieceLength, pieceCount, dynamicKinds, spanFits, dynamicFits, leastSpanFits, listedCounts, tableCounts, mark, effectFields, format, size, bytes, effectSize, words};
+ghost use Rattle.model.specs.Format.{profileOf, kilonewtons, newtons, effectUnit, is, pieceLength, pieceCount, ordinateLimit, dynamicKinds, spanFits, dynamicFits, leastSpanFits, carriagewayWidth, acrossLayout, listedCounts, newtonCounts, tableCounts, mark, effectFields, format, size, bytes, effectSize, words};
 ghost use Rattle.model.specs.Refusals.{clearWidth, widthTest};
-ghost use Rattle.model.specs.declared.Edition.the-variants.{Second, Fourth};
+ghost use Rattle.model.specs.declared.Edition.the-variants.{Third, Fourth};
 ghost use Rattle.model.specs.declared.Part.the-variants.{Head, Line, Transverse, Effects, Rows, Records};
 ghost use Rattle.sections.specs.Sized.{Counted};
 ghost use Rattle.limits.specs.Faults.{placeOf, AfterHeader};
@@ -103,6 +103,7 @@ fn dynamic_kinds(edition: Edition) -> usize
     match edition {
         Edition::First => 3,
         Edition::Second => 4,
+        Edition::Third => 4,
         Edition::Fourth => 3,
     }
 }
@@ -154,13 +155,29 @@ fn listed_counts(s: &[u8], later: Fault) -> Fault
     field(7, in_range(s, 7, 0, 16), rows)
 }
 
-// Edition 2's words from 7 on: E, R, C, the span for least, and one that is 0.
-fn second_counts(s: &[u8]) -> Fault
+// Those of a job with effects in N·U: E, R, C, the span for least, one that is 0, and later ones.
+fn newton_counts(s: &[u8], later: Fault) -> Fault
     requires { ⌜ 48 ≤ length (now s) ⌝ }
-    ensures { λ r. ⌜ placeOf r ≡ misfitFrom 7 (tableCounts Second) (itemFrom (now (s .entry)) 0 0) ⌝ }
+    ensures { λ r. ⌜ ((more : List Field) → placeOf later ≡ misfitFrom 12 more (itemFrom (now (s .entry)) 0 0) → placeOf r ≡ misfitFrom 7 (newtonCounts more) (itemFrom (now (s .entry)) 0 0)) ⌝ }
 {
-    let last = field(11, in_range(s, 11, 0, 0), Fault::Clear);
-    listed_counts(s, field(10, least_span_fits(s), last))
+    let zero = field(11, in_range(s, 11, 0, 0), later);
+    listed_counts(s, field(10, least_span_fits(s), zero))
+}
+
+// Word p is a carriageway's width in cm.
+fn width_fits(s: &[u8], p: usize) -> bool
+    requires { ⌜ 4 * p + 4 ≤ length (now s) ⌝ }
+    ensures { λ r. ⌜ r ≡ admits carriagewayWidth (wordAt (now (s .entry)) p) ⌝ }
+{
+    in_range(s, p, 300, 2079)
+}
+
+// Edition 3's words from 7 on: those, and the second carriageway's width.
+fn third_counts(s: &[u8]) -> Fault
+    requires { ⌜ 52 ≤ length (now s) ⌝ }
+    ensures { λ r. ⌜ placeOf r ≡ misfitFrom 7 (tableCounts Third) (itemFrom (now (s .entry)) 0 0) ⌝ }
+{
+    newton_counts(s, field(12, width_fits(s, 12), Fault::Clear))
 }
 
 // Edition 4's words from 7 on: its eleven effects, no rows or records of its own, barriers.
@@ -182,7 +199,8 @@ fn counts_misfit(s: &[u8], head: Header) -> Fault
     let edition = head.edition;
     match edition {
         Edition::First => listed_counts(s, Fault::Clear),
-        Edition::Second => second_counts(s),
+        Edition::Second => newton_counts(s, Fault::Clear),
+        Edition::Third => third_counts(s),
         Edition::Fourth => rural_counts(s),
     }
 }
@@ -195,7 +213,7 @@ pub fn header_misfit(s: &[u8], head: Header) -> Fault
     let value = field(6, dynamic_fits(s), counts_misfit(s, head));
     let edition = head.edition;
     let kind = field(5, in_range(s, 5, 1, dynamic_kinds(edition)), value);
-    let width = field(4, in_range(s, 4, 300, 2079), kind);
+    let width = field(4, width_fits(s, 4), kind);
     let spacing = field(3, in_range(s, 3, 10, 50), width);
     let h = words::word(s, 1);
     let pieces = field(2, pieces_fit(h, words::word(s, 2)), spacing);
@@ -220,8 +238,18 @@ pub fn width_misfit(s: &[u8], head: Header) -> Fault
 {
     let edition = head.edition;
     match edition {
-        Edition::First | Edition::Second => Fault::Clear,
+        Edition::First | Edition::Second | Edition::Third => Fault::Clear,
         Edition::Fourth => field(4, clear_width(s), Fault::Clear),
+    }
+}
+
+// The most of a line's ordinates in an edition.
+pub fn ordinate_limit(edition: Edition) -> i64
+    ensures { λ r. ⌜ (r ≡ pos (ordinateLimit edition)) × Within 5000 r ⌝ }
+{
+    match edition {
+        Edition::First | Edition::Fourth | Edition::Second => 5000,
+        Edition::Third => 500,
     }
 }
 
@@ -231,14 +259,16 @@ fn piece_misfit(s: &[u8], head: Header, i: usize) -> Fault
     ensures { λ r. ⌜ placeOf r ≡ misfitFrom 0 (format head Line .fields) (itemFrom (now (s .entry)) (size Line * i) i) ⌝ }
 {
     let p = model::PIECE_WORDS * i;
-    let right = field(1, within(s, p + 1, 5000), Fault::Clear);
-    field(0, within(s, p, 5000), right)
+    let edition = head.edition;
+    let most = ordinate_limit(edition);
+    let right = field(1, within(s, p + 1, most), Fault::Clear);
+    field(0, within(s, p, most), right)
 }
 
-// A transverse ordinate.
-fn transverse_misfit(s: &[u8], head: Header, i: usize) -> Fault
+// A transverse ordinate of either carriageway.
+fn transverse_misfit(s: &[u8], i: usize) -> Fault
     requires { ⌜ bytes Transverse * i + bytes Transverse ≤ length (now s) ⌝ }
-    ensures { λ r. ⌜ placeOf r ≡ misfitFrom 0 (format head Transverse .fields) (itemFrom (now (s .entry)) (size Transverse * i) i) ⌝ }
+    ensures { λ r. ⌜ ((w g : ℕ) → placeOf r ≡ misfitFrom 0 (acrossLayout w g .fields) (itemFrom (now (s .entry)) (size Transverse * i) i)) ⌝ }
 {
     field(0, within(s, i, 1000), Fault::Clear)
 }
@@ -260,7 +290,7 @@ fn mark_fits(s: &[u8], head: Header, i: usize, p: usize) -> bool
 {
     let edition = head.edition;
     match edition {
-        Edition::First | Edition::Second => in_range(s, p, 1, 2),
+        Edition::First | Edition::Second | Edition::Third => in_range(s, p, 1, 2),
         Edition::Fourth => {
             let m = rural_mark(i);
             in_range(s, p, m, m)
@@ -304,7 +334,7 @@ fn effect_misfit(s: &[u8], head: Header, i: usize) -> Fault
     let edition = head.edition;
     match edition {
         Edition::First | Edition::Fourth => kilonewton_effect_misfit(s, head, i),
-        Edition::Second => newton_effect_misfit(s, head, i),
+        Edition::Second | Edition::Third => newton_effect_misfit(s, head, i),
     }
 }
 
@@ -350,7 +380,8 @@ fn item_misfit(s: &[u8], head: Header, part: Part, i: usize) -> Fault
     match part {
         Part::Head => Fault::Clear,
         Part::Line => piece_misfit(s, head, i),
-        Part::Transverse => transverse_misfit(s, head, i),
+        Part::Transverse => transverse_misfit(s, i),
+        Part::SecondTransverse => transverse_misfit(s, i),
         Part::Effects => effect_misfit(s, head, i),
         Part::Rows => row_misfit(s, head, i),
         Part::Records => record_misfit(s, head, i),

@@ -1,11 +1,12 @@
 -- What the editions of an arm of a `match` have in common. Such an arm is known by its editions' tags, which count from 0 in the order of their declaration.
 use mathlib.Core.Path.{_≡_, refl}
 use mathlib.Core.Logic.{inl, inr}
-use mathlib.Core.List.{[], _∷_}
+use mathlib.Core.List.{List, [], _∷_}
+use Prim.Native.Nat.{ℕ}
 use native.Mathlib.Omega.{arith}
 use types.Run.{OneOf}
 use denote.Enum.Declared.{tagOf}
-use Rattle.model.specs.Format.{profileOf, kilonewtons, newtons, effectUnit}
+use Rattle.model.specs.Format.{profileOf, kilonewtons, newtons, effectUnit, secondWidth, ordinateLimit}
 use Rattle.model.specs.Job.{highway}
 use Rattle.model.specs.declared.Edition.{Edition}
 use Rattle.model.specs.declared.Edition.the-variants.{First, Second, Third, Fourth}
@@ -37,3 +38,12 @@ newton-editions Second t = refl
 newton-editions Third t = refl
 newton-editions Fourth (inl t) = absurd (omega arith)
 newton-editions Fourth (inr t) = absurd (omega arith)
+
+-- 1, 4 and 2 have one carriageway
+pub one-carriageway-editions : (e : Edition) → OneOf (0 ∷ 1 ∷ 2 ∷ []) (tagOf the-type e) → ((b : List ℕ) → secondWidth e b ≡ 0) × (ordinateLimit e ≡ 5000)
+one-carriageway-editions First t = (λ b. refl, refl)
+one-carriageway-editions Second t = (λ b. refl, refl)
+one-carriageway-editions Third (inl t) = absurd (omega arith)
+one-carriageway-editions Third (inr (inl t)) = absurd (omega arith)
+one-carriageway-editions Third (inr (inr t)) = absurd (omega arith)
+one-carriageway-editions Fourth t = (λ b. refl, refl)

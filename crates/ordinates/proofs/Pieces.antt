@@ -12,7 +12,7 @@ use Rattle.exact.specs.Choice.{if_then_else_}
 use Rattle.exact.proofs.Bridge.{by-test}
 use Rattle.words.specs.Words.{wordAt}
 use Rattle.words.specs.Fields.{moved, itemMisfit, misfit}
-use Rattle.model.specs.Format.{format, size, bytes}
+use Rattle.model.specs.Format.{ordinateLimit, format, size, bytes}
 use Rattle.model.specs.Refusals.{crosses, signs}
 use Rattle.model.specs.declared.Header.{Header}
 use Rattle.model.specs.declared.Part.the-variants.{Line}
@@ -31,6 +31,6 @@ unfolding misfit
 none-crossing s n h = answer-none 0 n (itemMisfit (signs n .fields) s) (λ i _ l. piece n s i (h i (omega arith)))
 
 -- where all ordinates are within their limits, refusal 4 finds nothing
-pub all-within : (head : Header) (s : List ℕ) → length s ≡ bytes Line * head .pieces → AllWithin s (pos 5000) → misfit (format head Line) s ≡ none
+pub all-within : (head : Header) (s : List ℕ) → length s ≡ bytes Line * head .pieces → AllWithin s (pos (ordinateLimit (head .edition))) → misfit (format head Line) s ≡ none
 unfolding misfit
 all-within head s e h = answer-none 0 (head .pieces) (itemMisfit (format head Line .fields) s) (λ i _ l. rw (add-zero (size Line * i), h (size Line * i) (omega arith), h (size Line * i + 1) (omega arith)) refl)

@@ -49,7 +49,8 @@ pub fn misfit(s: &[u8], head: Header) -> Fault
     requires { ⌜ Counted head × (length (now s) ≡ bytes Line * head .pieces) ⌝ }
     ensures { λ r. ⌜ placeOf r ≡ misfit (format head Line) (now (s .entry)) ⌝ }
 {
-    if strays(s, 5000) == 0 {
+    let edition = head.edition;
+    if strays(s, limits::ordinate_limit(edition) as i32) == 0 {
         return Fault::Clear;
     }
     limits::misfit(s, head, Part::Line)

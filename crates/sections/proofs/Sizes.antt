@@ -5,13 +5,16 @@ use mathlib.Core.List.{List}
 use Prim.Native.Nat.{ℕ, _+_, _-_, _*_, _≤_, _<_}
 use native.Mathlib.Nat.{div-lt-iff-lt-mul, mul-le-mul}
 use native.Mathlib.Omega.{arith}
+use lib.Dec.{eqb}
 use lib.ListN.{take, drop, length}
-use Rattle.model.specs.Format.{profileOf, effectUnit, headerOf, effectFields, spaces, words, start, wordsDue, section, sectionOf}
+use Rattle.exact.specs.Choice.{if_then_else_}
+use Rattle.exact.proofs.Bridge.{by-test}
+use Rattle.model.specs.Format.{profileOf, effectUnit, headerOf, effectFields, spaces, acrossLayout, words, start, wordsDue, section, sectionOf}
 use Rattle.model.specs.declared.Header.{Header}
 use Rattle.model.specs.declared.Part.{Part}
-use Rattle.model.specs.declared.Part.the-variants.{Head, Line, Transverse, Effects, Rows, Records}
+use Rattle.model.specs.declared.Part.the-variants.{Head, Line, Transverse, SecondTransverse, Effects, Rows, Records}
 use Rattle.model.specs.Refusals.{fault1, fault2, fault3}
-use Rattle.model.proofs.HeaderLimits.{header-fits}
+use Rattle.model.proofs.HeaderLimits.{Carriageways, one, two, header-fits}
 use Rattle.model.proofs.Sections.{section-length}
 use Rattle.model.proofs.Verdict.{header-short, effect-size, two-or-three, size-fits, part-inside}
 use Rattle.sections.specs.Sized.{Counted, Sized}
@@ -29,20 +32,31 @@ counted b e =
       spaced = omega (arith, f .spacing .least);
       spacing = f .spacing .most;
       width = f .wide .most;
+      second = second-most (f .carriageways);
       effects = f .effects .most;
       rows = f .rows .most;
       records = f .records .most;
     }
+  where
+    second-most : Carriageways b → headerOf b .second ≤ 2079
+    second-most (one z) = omega arith
+    second-most (two t l m) = m
 
 -- there are no more spaces than cm
-pub few-spaces : {head : Header} → Counted head → spaces (head .width) (head .spacing) < 2080
-few-spaces {head} c = let l : head .width + head .spacing - 1 < 2080 * head .spacing = omega (arith, c .spaced, c .width) in div-lt-iff-lt-mul (c .spaced) .1 l
+pub few-spaces : {w g : ℕ} → w ≤ 2079 → 0 < g → spaces w g < 2080
+few-spaces {w} {g} h p = let l : w + g - 1 < 2080 * g = omega arith in div-lt-iff-lt-mul p .1 l
+
+-- so few ordinates across a carriageway
+pub few-across : (w g : ℕ) → w ≤ 2079 → 0 < g → acrossLayout w g .items ≤ 2080
+few-across w g h p =
+    by-test (eqb w 0) (λ t. (if t then 0 else spaces w g + 1) ≤ 2080) (λ _. omega arith) (λ _. omega (arith, few-spaces h p))
 
 -- no part has more words than its counts allow
-pub few-words : (head : Header) (part : Part) → Counted head → {p : ℕ} → p < words head part → p ≤ 24960
+pub few-words : (head : Header) (part : Part) → Counted head → {p : ℕ} → p < words head part → p ≤ 27040
 few-words head Head c h = omega (arith, header-short head)
 few-words head Line c h = omega arith
-few-words head Transverse c h = let s = few-spaces c in omega arith
+few-words head Transverse c h = omega (arith, few-across (head .width) (head .spacing) (c .width) (c .spaced))
+few-words head SecondTransverse c h = omega (arith, few-across (head .second) (head .spacing) (c .second) (c .spaced))
 few-words head Effects c h =
     let u = effectUnit (head .edition) in
     let p = profileOf (head .edition) in

@@ -14,6 +14,7 @@ pub record Counted (head : Header) : Type 0 where
   pub spaced : 0 < head .spacing
   pub spacing : head .spacing ≤ 50
   pub width : head .width ≤ 2079
+  pub second : head .second ≤ 2079
   pub effects : head .effects ≤ 16
   pub rows : head .rows ≤ 32
   pub records : head .records ≤ 512

@@ -3,7 +3,8 @@ ghost use mathlib.Core.Path.{_≡_};
 ghost use Prim.Native.Nat.{_*_, _≤_};
 ghost use lib.ListN.{length};
 ghost use Rattle.words.specs.Words.{wordAt};
-ghost use Rattle.model.specs.Format.{editionOf, headerOf, format, bytes, words, section};
+ghost use Rattle.model.specs.Format.{editionOf, secondWidth, headerOf, format, bytes, words, section};
+ghost use Rattle.model.specs.declared.Edition.the-variants.{Third};
 ghost use Rattle.model.specs.declared.Part.the-variants.{Head};
 use model::Edition;
 use model::Header;
@@ -17,19 +18,34 @@ fn edition(s: &[u8]) -> Edition
     if number == model::RURAL_EDITION {
         return Edition::Fourth;
     }
+    if number == model::THIRD_EDITION {
+        return Edition::Third;
+    }
     if number == model::SECOND_EDITION {
         return Edition::Second;
     }
     Edition::First
 }
 
+// The second carriageway's width; 0 where the edition has one carriageway.
+fn second_width(s: &[u8], edition: Edition) -> usize
+    requires { ⌜ (edition ≡ Third → 52 ≤ length (now s)) ⌝ }
+    ensures { λ r. ⌜ r ≡ secondWidth edition (now (s .entry)) ⌝ }
+{
+    match edition {
+        Edition::First | Edition::Fourth | Edition::Second => 0,
+        Edition::Third => words::count(s, 12),
+    }
+}
+
 // Its words as counts.
 pub fn read(s: &[u8]) -> Header
-    requires { ⌜ bytes Head ≤ length (now s) ⌝ }
+    requires { ⌜ 4 * words (headerOf (now s)) Head ≤ length (now s) ⌝ }
     ensures { λ r. ⌜ r ≡ headerOf (now (s .entry)) ⌝ }
 {
+    let named = edition(s);
     Header {
-        edition: edition(s),
+        edition: named,
         h: words::count(s, 1),
         pieces: words::count(s, 2),
         spacing: words::count(s, 3),
@@ -39,17 +55,19 @@ pub fn read(s: &[u8]) -> Header
         effects: words::count(s, 7),
         rows: words::count(s, 8),
         records: words::count(s, 9),
+        second: second_width(s, named),
     }
 }
 
 // How many words it has, by its edition.
 pub fn size(head: Header) -> usize
-    ensures { λ r. ⌜ (r ≡ length (format head Head .fields)) × (r ≤ 12) ⌝ }
+    ensures { λ r. ⌜ (r ≡ length (format head Head .fields)) × (r ≤ 13) ⌝ }
 {
     let edition = head.edition;
     match edition {
         Edition::First => model::HEADER_WORDS,
         Edition::Second => model::SECOND_HEADER_WORDS,
+        Edition::Third => model::THIRD_HEADER_WORDS,
         Edition::Fourth => model::RURAL_HEADER_WORDS,
     }
 }

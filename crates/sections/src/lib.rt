@@ -2,9 +2,9 @@
 pub mod header;
 
 ghost use mathlib.Core.Path.{_≡_};
-ghost use Prim.Native.Nat.{_≤_};
+ghost use Prim.Native.Nat.{_≤_, _<_};
 ghost use lib.ListN.{length};
-ghost use Rattle.model.specs.Format.{effectUnit, format, effectSize, words, start, wordsDue, sectionOf};
+ghost use Rattle.model.specs.Format.{effectUnit, acrossLayout, format, effectSize, words, start, wordsDue, sectionOf};
 ghost use Rattle.sections.specs.Sized.{Counted, Sized};
 use model::Edition;
 use model::Header;
@@ -17,22 +17,34 @@ fn effect_words(head: Header) -> usize
     let edition = head.edition;
     match edition {
         Edition::First | Edition::Fourth => model::EFFECT_WORDS,
-        Edition::Second => model::NEWTON_EFFECT_WORDS,
+        Edition::Second | Edition::Third => model::NEWTON_EFFECT_WORDS,
     }
 }
 
 // The words of an item.
 pub fn item_words(head: Header, part: Part) -> usize
-    ensures { λ r. ⌜ (r ≡ length (format head part .fields)) × (r ≤ 12) ⌝ }
+    ensures { λ r. ⌜ (r ≡ length (format head part .fields)) × (r ≤ 13) ⌝ }
 {
     match part {
         Part::Head => header::size(head),
         Part::Line => model::PIECE_WORDS,
         Part::Transverse => 1,
+        Part::SecondTransverse => 1,
         Part::Effects => effect_words(head),
         Part::Rows => model::ROW_WORDS,
         Part::Records => model::RECORD_WORDS,
     }
+}
+
+// The ordinates across a carriageway w cm wide, g cm apart; none where it has no width.
+fn ordinates_across(w: usize, g: usize) -> usize
+    requires { ⌜ (w ≤ 2079) × (0 < g) × (g ≤ 50) ⌝ }
+    ensures { λ r. ⌜ (r ≡ acrossLayout w g .items) × (r ≤ 2080) ⌝ }
+{
+    if w == 0 {
+        return 0;
+    }
+    (w + g - 1) / g + 1
 }
 
 // The number of items.
@@ -43,11 +55,8 @@ pub fn items(head: Header, part: Part) -> usize
     match part {
         Part::Head => 1,
         Part::Line => head.pieces,
-        Part::Transverse => {
-            let w = head.width;
-            let g = head.spacing;
-            (w + g - 1) / g + 1
-        }
+        Part::Transverse => ordinates_across(head.width, head.spacing),
+        Part::SecondTransverse => ordinates_across(head.second, head.spacing),
         Part::Effects => head.effects,
         Part::Rows => head.rows,
         Part::Records => head.records,
@@ -57,7 +66,7 @@ pub fn items(head: Header, part: Part) -> usize
 // A part's words.
 fn words(head: Header, part: Part) -> usize
     requires { ⌜ Counted head ⌝ }
-    ensures { λ r. ⌜ (r ≡ words head part) × (r ≤ 24960) ⌝ }
+    ensures { λ r. ⌜ (r ≡ words head part) × (r ≤ 27040) ⌝ }
 {
     item_words(head, part) * items(head, part)
 }
@@ -65,17 +74,19 @@ fn words(head: Header, part: Part) -> usize
 // Each part starts where the one before it ends.
 pub fn start(head: Header, part: Part) -> usize
     requires { ⌜ Counted head ⌝ }
-    ensures { λ r. ⌜ (r ≡ start head part) × (r ≤ 124800) ⌝ }
+    ensures { λ r. ⌜ (r ≡ start head part) × (r ≤ 162240) ⌝ }
 {
     let line = words(head, Part::Head);
     let transverse = line + words(head, Part::Line);
-    let effects = transverse + words(head, Part::Transverse);
+    let second = transverse + words(head, Part::Transverse);
+    let effects = second + words(head, Part::SecondTransverse);
     let rows = effects + words(head, Part::Effects);
     let records = rows + words(head, Part::Rows);
     match part {
         Part::Head => 0,
         Part::Line => line,
         Part::Transverse => transverse,
+        Part::SecondTransverse => second,
         Part::Effects => effects,
         Part::Rows => rows,
         Part::Records => records,
@@ -85,7 +96,7 @@ pub fn start(head: Header, part: Part) -> usize
 // The word count that the header calls for.
 pub fn words_due(head: Header) -> usize
     requires { ⌜ Counted head ⌝ }
-    ensures { λ r. ⌜ (r ≡ wordsDue head) × (r ≤ 149760) ⌝ }
+    ensures { λ r. ⌜ (r ≡ wordsDue head) × (r ≤ 189280) ⌝ }
 {
     start(head, Part::Records) + words(head, Part::Records)
 }

@@ -17,7 +17,7 @@ module _ (c : TrainCall) (room : ℕ) (clear : CallClear c room) where
   ratable =
       let a = clear .arguments in
       record {
-        line = record { room = omega (arith, a .whole); few = a .few; near = ordinates-within (c .section) (c .pieces) (clear .ordinates) };
+        line = record { room = omega (arith, a .whole); few = a .few; near = ordinates-within 5000 (c .section) (c .pieces) (clear .ordinates) };
         sided = clear .sided;
         length = a .length .0;
         train = train-fits;

@@ -10,10 +10,11 @@ use lib.Dec.{eqb}
 use lib.ListN.{length}
 use Rattle.exact.specs.Choice.{if_then_else_}
 use Rattle.words.specs.Fields.{misfit}
-use Rattle.model.specs.Format.{lineLayout}
+use Rattle.model.specs.Format.{lineLayout, ordinateLimit}
 use Rattle.model.specs.Refusals.{Refusal, refuse, signs, packed}
 use Rattle.model.specs.Trains.{TrainCall, argumentsFit, trainFault, trainTests, trainVerdict}
 use Rattle.model.specs.declared.Axle.{Axle}
+use Rattle.model.specs.declared.Edition.the-variants.{First}
 use Rattle.model.proofs.RefusalNumbers.{train-number-small}
 use Rattle.trains.specs.Rated.{resultOf}
 
@@ -24,7 +25,7 @@ module _ (c : TrainCall) (room : ℕ) where
   refused-2 e = rw e refl
 
   pub past-2 : argumentsFit (c .h) (c .pieces) (length (c .section)) (c .mode) room ≡ true →
-      refuse 4 (misfit (lineLayout (c .pieces)) (c .section)) (refuse 5 (misfit (signs (c .pieces)) (c .section)) (refuse 10 (trainFault (c .h) (c .train)) none)) ≡ trainVerdict c room
+      refuse 4 (misfit (lineLayout (ordinateLimit First) (c .pieces)) (c .section)) (refuse 5 (misfit (signs (c .pieces)) (c .section)) (refuse 10 (trainFault (c .h) (c .train)) none)) ≡ trainVerdict c room
   unfolding trainVerdict trainTests
   past-2 e = rw e refl
 

@@ -15,6 +15,7 @@ ghost use Rattle.exact.specs.Choice.{if_then_else_};
 ghost use Rattle.words.specs.Fields.{admits, firstAnswer};
 ghost use Rattle.model.specs.Format.{pieceLength, pieceCount};
 ghost use Rattle.model.specs.Refusals.{unless, packed, refuse};
+ghost use Rattle.model.specs.declared.Edition.the-variants.{First};
 ghost use Rattle.model.specs.Trains.{modeOf, argumentsFit, inOrder, axleFits, trainFault, trainVerdict};
 ghost use Rattle.limits.specs.Faults.{placeOf};
 ghost use Rattle.sections.specs.Sized.{Counted};
@@ -56,7 +57,7 @@ fn arguments_fit(h: usize, pieces: usize, section: usize, mode: usize, room: usi
 // The header of a line alone, as a job of the first edition has it.
 fn header(h: usize, pieces: usize) -> Header
     requires { ⌜ pieces ≤ 1000 ⌝ }
-    ensures { λ r. ⌜ Counted r × (r .pieces ≡ pieces) ⌝ }
+    ensures { λ r. ⌜ Counted r × (r .edition ≡ First) × (r .pieces ≡ pieces) ⌝ }
 {
     Header {
         edition: Edition::First,
@@ -69,6 +70,7 @@ fn header(h: usize, pieces: usize) -> Header
         effects: 0,
         rows: 0,
         records: 0,
+        second: 0,
     }
 }
 

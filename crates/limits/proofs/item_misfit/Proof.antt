@@ -25,10 +25,15 @@ transverse-misfit-requires c κs =
     let h = inside (c .before .before .before) (c .enum-told3 .given .1) in
     omega arith
 
+transverse-misfit-requires-2 : tie.Need-transverse-misfit-requires-2
+transverse-misfit-requires-2 c κs =
+    let h = inside (c .before .before .before) (c .enum-told4 .given .1) in
+    omega arith
+
 effect-misfit-requires : tie.Need-effect-misfit-requires
 effect-misfit-requires c κs =
     let st = c .before .before .before in
-    let h = inside st (c .enum-told4 .given .1) in
+    let h = inside st (c .enum-told5 .given .1) in
     let u = effectUnit (st .args .head .edition) in
     let e = effect-size u (profileOf (st .args .head .edition)) in
     let k : 4 * (effectSize u * st .args .head .effects) ≤ length (st .args .s .now) = rw e at (h .1) in
@@ -36,12 +41,12 @@ effect-misfit-requires c κs =
 
 row-misfit-requires : tie.Need-row-misfit-requires
 row-misfit-requires c κs =
-    let h = inside (c .before .before .before) (c .enum-told5 .given .1) in
+    let h = inside (c .before .before .before) (c .enum-told6 .given .1) in
     omega arith
 
 record-misfit-requires : tie.Need-record-misfit-requires
 record-misfit-requires c κs =
-    let h = inside (c .before .before .before) (c .enum-told6 .given .1) in
+    let h = inside (c .before .before .before) (c .enum-told7 .given .1) in
     omega arith
 
 returns : tie.Need-returns
@@ -51,20 +56,23 @@ returns-2 : tie.Need-returns-2
 returns-2 c = rw (c .before .enum-told2 .given .1) (c .piece-misfit .ensures)
 
 returns-3 : tie.Need-returns-3
-returns-3 c = rw (c .before .enum-told3 .given .1) (c .transverse-misfit .ensures)
+returns-3 c = let head = c .before .before .before .before .args .head in rw (c .before .enum-told3 .given .1) (c .transverse-misfit .ensures (head .width) (head .spacing))
 
 returns-4 : tie.Need-returns-4
-returns-4 c =
-    let e = c .before .before .before .before .args .head .edition in
-    rw (c .before .enum-told4 .given .1, effect-size (effectUnit e) (profileOf e)) (c .effect-misfit .ensures)
+returns-4 c = let head = c .before .before .before .before .args .head in rw (c .before .enum-told4 .given .1) (c .transverse-misfit2 .ensures (head .second) (head .spacing))
 
 returns-5 : tie.Need-returns-5
-returns-5 c = rw (c .before .enum-told5 .given .1) (c .row-misfit .ensures)
+returns-5 c =
+    let e = c .before .before .before .before .args .head .edition in
+    rw (c .before .enum-told5 .given .1, effect-size (effectUnit e) (profileOf e)) (c .effect-misfit .ensures)
 
 returns-6 : tie.Need-returns-6
-returns-6 c = rw (c .before .enum-told6 .given .1) (c .record-misfit .ensures)
+returns-6 c = rw (c .before .enum-told6 .given .1) (c .row-misfit .ensures)
+
+returns-7 : tie.Need-returns-7
+returns-7 c = rw (c .before .enum-told7 .given .1) (c .record-misfit .ensures)
 
 pub item-misfit-spec : {M : Type 1} → statement M
 item-misfit-spec =
     tie.close
-    (tie.spec (λ c. search needs) (λ c. search needs) piece-misfit-requires (λ c. search needs) transverse-misfit-requires (λ c. search needs) effect-misfit-requires (λ c. search needs) row-misfit-requires (λ c. search needs) record-misfit-requires returns returns-2 returns-3 returns-4 returns-5 returns-6)
+    (tie.spec (λ c. search needs) (λ c. search needs) piece-misfit-requires (λ c. search needs) transverse-misfit-requires (λ c. search needs) transverse-misfit-requires-2 (λ c. search needs) effect-misfit-requires (λ c. search needs) row-misfit-requires (λ c. search needs) record-misfit-requires returns returns-2 returns-3 returns-4 returns-5 returns-6 returns-7)

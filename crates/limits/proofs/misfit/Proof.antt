@@ -41,7 +41,7 @@ module _ (c : tie.After-item-words Inv-loop μ-loop) where
       search-found (item .before .before .loop .inv) (omega arith) (ap (moved _) (sym (item .item-misfit .ensures) ∙ ap placeOf (c .before .before .fault .given .1)))
       ∙ ap (λ (w : ℕ). some (w * i + j)) (sym (c .item-words .ensures .0))
 
-  small : place ≤ 24960
+  small : place ≤ 27040
   small = few-words (st .args .head) (st .args .part) (st .pre .1) (below (format (st .args .head) (st .args .part)) _ place found)
 
 returns : tie.Need-returns Inv-loop μ-loop

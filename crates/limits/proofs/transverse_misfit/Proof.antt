@@ -6,7 +6,7 @@ use Rattle.limits.proofs.transverse_misfit.Statement.{statement}
 use Rattle.limits.proofs.transverse_misfit.Tie as tie
 
 returns : tie.Need-returns
-returns c =
+returns c w g =
     let i = c .before .before .before .args .i in
     let first : 1 * i + 0 ≡ i = omega arith in
     rw (c .field .ensures, c .before .within .ensures, first) refl

@@ -1,7 +1,7 @@
 use mathlib.Core.Path.{refl}
 use native.Mathlib.Omega.{arith}
 use borrow.Author.Needs.{needs}
-use Rattle.model.proofs.Editions.{kilonewton-editions}
+use Rattle.model.proofs.Editions.{kilonewton-editions, newton-editions}
 use Rattle.sections.proofs.effect_words.Statement.{statement}
 use Rattle.sections.proofs.effect_words.Tie as tie
 
@@ -9,7 +9,7 @@ returns : tie.Need-returns
 returns c = rw (kilonewton-editions (c .before .args .head .edition) (c .match .keys1)) (refl, omega arith)
 
 returns-2 : tie.Need-returns-2
-returns-2 c = rw (c .enum-told .given .1) (refl, omega arith)
+returns-2 c = rw (newton-editions (c .before .args .head .edition) (c .match .keys2)) (refl, omega arith)
 
 pub effect-words-spec : {M : Type 1} → statement M
-effect-words-spec = tie.close (tie.spec (λ c. search needs) returns returns-2)
+effect-words-spec = tie.close (tie.spec returns returns-2)

@@ -21,6 +21,9 @@ returns-5 c = rw (c .enum-told5 .given .1) (omega arith)
 returns-6 : tie.Need-returns-6
 returns-6 c = rw (c .enum-told6 .given .1) (omega arith)
 
+returns-7 : tie.Need-returns-7
+returns-7 c = rw (c .enum-told7 .given .1) (omega arith)
+
 pub start-spec : {M : Type 1} → statement M
 start-spec =
     tie.close
@@ -34,6 +37,9 @@ start-spec =
     (λ c. search needs)
     (λ c κs. search needs)
     (λ c. search needs)
+    (λ c κs. search needs)
+    (λ c. search needs)
+    (λ c. search needs)
     (λ c. search needs)
     (λ c. search needs)
     (λ c. search needs)
@@ -45,4 +51,5 @@ start-spec =
     returns-3
     returns-4
     returns-5
-    returns-6)
+    returns-6
+    returns-7)

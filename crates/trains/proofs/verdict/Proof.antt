@@ -1,6 +1,6 @@
 use borrow.Author.Needs.{needs}
 use borrow.Author.Tests.{not-true, not-false}
-use mathlib.Core.Path.{_≡_, sym, _∙_, ap}
+use mathlib.Core.Path.{_≡_, sym, _∙_, ap, ap₂}
 use mathlib.Core.Bool.{true}
 use mathlib.Core.Option.{Option, none}
 use Prim.Native.Nat.{ℕ}
@@ -10,10 +10,12 @@ use lib.ListN.{length}
 use Rattle.exact.specs.Choice.{if_then_else_}
 use Rattle.words.specs.Fields.{misfit}
 use Rattle.words.proofs.Fits.{below}
-use Rattle.model.specs.Format.{lineLayout}
+use Rattle.model.specs.Format.{lineLayout, ordinateLimit}
 use Rattle.model.specs.Refusals.{refuse, signs}
 use Rattle.model.specs.Trains.{TrainCall, argumentsFit, trainFault}
 use Rattle.model.proofs.TrainLimits.{ArgumentsFit, arguments-fit, fault-place}
+use Rattle.model.specs.declared.Edition.{Edition}
+use Rattle.model.specs.declared.Edition.the-variants.{First}
 use Rattle.limits.specs.Faults.{placeOf}
 use Rattle.trains.specs.TrainOf.{trainOf}
 use Rattle.trains.specs.Rated.{resultOf}
@@ -28,7 +30,7 @@ module _ (s : tie.Start) where
 
   -- what its tests find
   abbrev found-4 : Option ℕ
-  found-4 = misfit (lineLayout (s .args .pieces)) (s .args .line .now)
+  found-4 = misfit (lineLayout (ordinateLimit First) (s .args .pieces)) (s .args .line .now)
 
   abbrev found-5 : Option ℕ
   found-5 = misfit (signs (s .args .pieces)) (s .args .line .now)
@@ -53,7 +55,9 @@ module _ (c : tie.After-misfit) where
   fit4 = c .before .before
 
   search-4 : placeOf (c .misfit .result) ≡ found-4 (st fit4)
-  search-4 = c .misfit .ensures ∙ ap (λ (n : ℕ). misfit (lineLayout n) (st fit4 .args .line .now)) (c .before .header .ensures .1)
+  search-4 =
+      let h = c .before .header .ensures in
+      c .misfit .ensures ∙ ap₂ (λ (e : Edition) (n : ℕ). misfit (lineLayout (ordinateLimit e) n) (st fit4 .args .line .now)) (h .1) (h .2)
 
 -- and where the two searches after it stand
 abbrev fit5 : tie.After-crossing → tie.Else1
@@ -72,7 +76,7 @@ header-requires : tie.Need-header-requires
 header-requires c κs = fit c .few
 
 misfit-requires : tie.Need-misfit-requires
-misfit-requires c κs = (c .header .ensures .0, omega (arith, fit (c .before) .whole, c .header .ensures .1))
+misfit-requires c κs = (c .header .ensures .0, omega (arith, fit (c .before) .whole, c .header .ensures .2))
 
 refusal-requires : tie.Need-refusal-requires
 refusal-requires c κs = (omega arith, λ p e. omega (arith, below _ _ p (sym (search-4 c) ∙ e), fit (fit4 c) .few))

@@ -9,7 +9,7 @@ use Rattle.job.proofs.refusals.in_job.Statement.{statement}
 use Rattle.job.proofs.refusals.in_job.Tie as tie
 
 -- the sum is small
-small : (c : tie.After-start) → c .start .result + c .before .before .own .given .0 .0 ≤ 149760
+small : (c : tie.After-start) → c .start .result + c .before .before .own .given .0 .0 ≤ 189280
 small c =
     let k = c .before .before in
     let st = k .before .before in

@@ -34,7 +34,7 @@ found c =
     ∙ ap (λ (head : Header). faultIn (st .args .s .now) head (Head ∷ [])) (st .pre .0)
 
 -- and one of its words
-small : (c : tie.After-own) → c .own .given .0 .0 < 12
+small : (c : tie.After-own) → c .own .given .0 .0 < 13
 small c =
     let k = c .before .before in
     let head = k .before .before .before .args .head in

@@ -9,8 +9,9 @@ use Rattle.job.proofs.refusals.ordinates.Tie as tie
 returns : tie.Need-returns
 unfolding fault4
 returns c =
-    c .or-else .ensures
-    ∙ ap₂ orElse (c .before .before .line .ensures) (c .before .fault .ensures ∙ sym (or-nothing _))
+    c .or-else2 .ensures
+    ∙ ap₂ orElse (c .before .before .before .before .line .ensures)
+    (c .before .or-else .ensures ∙ ap₂ orElse (c .before .before .before .fault .ensures) (c .before .before .fault2 .ensures ∙ sym (or-nothing _)))
 
 pub ordinates-spec : {M : Type 1} → statement M
-ordinates-spec = tie.close (tie.spec (λ c κs. search needs) (λ c κs. search needs) (λ c κs. search needs) returns)
+ordinates-spec = tie.close (tie.spec (λ c κs. search needs) (λ c κs. search needs) (λ c κs. search needs) (λ c κs. search needs) (λ c κs. search needs) returns)

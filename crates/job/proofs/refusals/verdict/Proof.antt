@@ -1,8 +1,7 @@
 use mathlib.Core.Path.{_≡_, sym, _∙_, ap, subst}
 use Prim.Native.Nat.{_-_, _≤_}
 use native.Mathlib.Omega.{arith}
-use Rattle.model.specs.Format.{headerOf}
-use Rattle.model.proofs.Verdict.{header-long, has-header}
+use Rattle.model.proofs.Verdict.{has-header}
 use Rattle.job.specs.Rulings.{findingOf, Passed}
 use Rattle.job.proofs.Rulings.{begins, ruled, frame-refuses, refuses, goes-on}
 use borrow.Author.Needs.{needs}
@@ -19,9 +18,7 @@ returns : tie.Need-returns Inv-loop μ-loop
 returns c = let k = c .before .before .before in frame-refuses _ _ (sym (k .frame .ensures) ∙ ap findingOf (c .before .first .given .1))
 
 read-requires : tie.Need-read-requires Inv-loop μ-loop
-read-requires c κs =
-    let h = has-header _ (sym (c .before .before .frame .ensures) ∙ ap findingOf (c .enum-told .given .1)) in
-    omega (arith, header-long (headerOf (c .before .before .before .before .args .s .now)), h)
+read-requires c κs = has-header _ (sym (c .before .before .frame .ensures) ∙ ap findingOf (c .enum-told .given .1))
 
 loop-holds : tie.Need-loop-holds Inv-loop μ-loop
 loop-holds c = (begins (c .read .ensures) (sym (c .before .before .before .frame .ensures) ∙ ap findingOf (c .before .enum-told .given .1)), omega arith)
