@@ -10,7 +10,7 @@ use Rattle.magnitudes.specs.Magnitudes.{trafficMost}
 use Rattle.model.specs.Job.{Job, Limit, Live, normal, overload, HasTraffic}
 use Rattle.model.specs.Format.{headerOf}
 use Rattle.model.specs.Refusals.{jobVerdict}
-use Rattle.model.specs.Lanes.{lanes}
+use Rattle.model.specs.Lanes.{lanesOf, secondLanes}
 use Rattle.model.specs.Answered.{positionOf, trafficIn, extremeOf, stateIn, PositionRight}
 use Rattle.model.specs.declared.Sense.{Sense}
 use Rattle.model.specs.declared.Traffic.{Traffic}
@@ -33,11 +33,12 @@ pub record TrafficFound (job : Job) (live : Live) (t : Traffic) : Type 0 where
   pub placed : (q : Question) → TrafficPlaced q job live (extremeOf q t)
   pub near : (q : Question) → Within trafficMost (extremeOf q t .value)
 
--- both live kinds', and the number of lanes
+-- both live kinds', and the number of lanes of each carriageway
 pub record ValuesRight (job : Job) (v : TrafficValues) : Type 0 where
   pub normal : TrafficFound job normal (v .normal)
   pub overload : TrafficFound job overload (v .overload)
-  pub laneCount : v .lanes ≡ lanes job
+  pub laneCount : v .lanes ≡ lanesOf (job .deck)
+  pub secondCount : v .second ≡ secondLanes job
 
 -- a question's reported traffic values
 abbrev pub reportedValues : Question → Account → LiveValues
@@ -56,4 +57,5 @@ pub record PartsRight (job : Job) (a : Account) : Type 0 where
   pub traffic : (q : Question) (live : Live) → HasTraffic live → TrafficPlaced q job live (extremeOf q (trafficIn a live))
   pub positions : (sense : Sense) → PositionRight (job .line) sense (positionOf a sense)
   pub states : (limit : Limit) → StateOf job a limit (stateIn a limit)
-  pub laneCount : a .lanes ≡ lanes job
+  pub laneCount : a .lanes ≡ lanesOf (job .deck)
+  pub secondCount : a .second ≡ secondLanes job

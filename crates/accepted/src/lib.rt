@@ -34,11 +34,12 @@ fn sought(job: &[u8], head: Header) -> Senses
     )
 }
 
-// The traffic values of both live kinds, and the number of lanes.
+// The traffic values of both live kinds, and the number of lanes of each carriageway.
 pub struct TrafficValues {
     pub normal: Traffic,
     pub overload: Traffic,
     pub lanes: usize,
+    pub second: usize,
 }
 
 // By what is sought of the line.
@@ -57,11 +58,9 @@ fn values(job: &[u8], head: Header, raising: Sought, lowering: Sought) -> Traffi
     };
     let dg = dynamic::factor(job, head, Question::Greatest);
     let dl = dynamic::factor(job, head, Question::Least);
-    let across = centres::across_of(
-        sections::section(job, head, Part::Transverse),
-        head.width,
-        head.spacing,
-    );
+    let near = sections::section(job, head, Part::Transverse);
+    let far = sections::section(job, head, Part::SecondTransverse);
+    let across = centres::across_of(near, far, head.width, head.second, head.spacing);
     let edition = head.edition;
     let most = traffic::both(Question::Greatest, edition, across, dg, hn, ho);
     let lowest = traffic::both(Question::Least, edition, across, dl, hn, ho);
@@ -80,7 +79,8 @@ fn values(job: &[u8], head: Header, raising: Sought, lowering: Sought) -> Traffi
     TrafficValues {
         normal,
         overload,
-        lanes: across.lanes,
+        lanes: across.first,
+        second: across.second,
     }
 }
 
@@ -135,5 +135,6 @@ pub fn account(job: &[u8], head: Header) -> Account
         service,
         ultimate,
         lanes: v.lanes,
+        second: v.second,
     }
 }

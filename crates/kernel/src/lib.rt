@@ -28,7 +28,7 @@ const NO_EXTREME: Extreme = Extreme {
     value: 0,
     placement: Placement {
         set: 0,
-        lanes: [EMPTY_LANE; 5],
+        lanes: [EMPTY_LANE; 10],
     },
 };
 
@@ -53,6 +53,7 @@ const ZERO_ACCOUNT: Account = Account {
     service: State::Absent,
     ultimate: State::Absent,
     lanes: 0,
+    second: 0,
 };
 
 // The answer of a refusal.

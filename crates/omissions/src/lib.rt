@@ -65,7 +65,7 @@ fn effect(effects: &[u8], edition: Edition, e: usize) -> Stated
 {
     match edition {
         Edition::First | Edition::Fourth => in_kilonewtons(effects, e),
-        Edition::Second => in_newtons(effects, e),
+        Edition::Second | Edition::Third => in_newtons(effects, e),
     }
 }
 

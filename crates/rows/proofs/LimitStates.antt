@@ -16,6 +16,7 @@ use Rattle.model.specs.declared.Account.{Account}
 use Rattle.model.specs.declared.Governing.{Governing}
 use Rattle.model.specs.declared.State.{State}
 use Rattle.model.specs.declared.State.the-variants.{Absent, Reported}
+use Rattle.model.proofs.Lanes.{Spaced}
 use Rattle.model.proofs.LineLimits.{OneSigned}
 use Rattle.model.proofs.States.{no-row, governing-row, unbeaten-unladen, unbeaten-laden}
 use Rattle.model.proofs.Attained.{counted-given}
@@ -32,7 +33,7 @@ governing-cong q row v w limit zero h = refl
 governing-cong q row v w limit (suc n) h =
     ap₂ (λ (o : Option Governs) (z : ℤ). if isOf limit (row (suc n) .limit) then laterIfBetter q o (record { value = z; row = suc n }) else o) (governing-cong q row v w limit n h) (h (suc n))
 
-module _ (job : Job) (patch : List ℕ) (a : Account) (limit : Limit) (signed : OneSigned (job .line)) (spaced : zero < job .deck .g) where
+module _ (job : Job) (patch : List ℕ) (a : Account) (limit : Limit) (signed : OneSigned (job .line)) (spaced : Spaced job) where
   -- the values in hand are the job's, and the reported placements give them
   pub record Given (q : Question) (traffic : Live → ℤ) : Type 0 where
     pub values : (live : Live) → traffic live ≡ trafficValue q job live

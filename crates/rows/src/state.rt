@@ -213,7 +213,7 @@ fn row(
 {
     let edition = head.edition;
     match edition {
-        Edition::First | Edition::Second => listed(effects, rows, records, head, live, r),
+        Edition::First | Edition::Second | Edition::Third => listed(effects, rows, records, head, live, r),
         Edition::Fourth => built_in(effects, live, r),
     }
 }
@@ -249,7 +249,7 @@ fn of_service(rows: &[u8], head: Header, r: usize) -> bool
 {
     let edition = head.edition;
     match edition {
-        Edition::First | Edition::Second => word(rows, r, 0) == 1,
+        Edition::First | Edition::Second | Edition::Third => word(rows, r, 0) == 1,
         Edition::Fourth => r <= 10,
     }
 }
@@ -260,7 +260,7 @@ fn row_count(head: Header) -> usize
 {
     let edition = head.edition;
     match edition {
-        Edition::First | Edition::Second => head.rows,
+        Edition::First | Edition::Second | Edition::Third => head.rows,
         Edition::Fourth => 20,
     }
 }

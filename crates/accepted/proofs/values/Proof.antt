@@ -14,12 +14,12 @@ use Rattle.model.specs.Line.{HN, HO}
 use Rattle.magnitudes.specs.Magnitudes.{hnLineMost, hoLineMost}
 use Rattle.centres.specs.Transverse.{TransverseFits}
 use Rattle.centres.specs.Spans.{AcrossFits, Spanned}
-use Rattle.lanes.specs.Entries.{LineEffectsFit}
+use Rattle.lanes.specs.Entries.{LoadsFit}
 use Rattle.lanes.specs.Loadings.{effectsOf}
 use Rattle.lanes.specs.declared.traffic.Effects.{Effects}
-use Rattle.lanes.proofs.Elements.{wider}
-use Rattle.accepted.proofs.Fits.{sized, across-fits, dynamic-limits, dynamic, one-lane, profile-is}
-use Rattle.accepted.proofs.Loads.{handed, effects-are, effects-fit, spanned, factor-is}
+use Rattle.lanes.proofs.Elements.{wider-loads}
+use Rattle.accepted.proofs.Fits.{sized, across-fits, second-fits, line-reach, line-tenth, dynamic-limits, dynamic, one-lane, profile-is}
+use Rattle.accepted.proofs.Loads.{handed, effects-are, loads-fit, decks-of, factor-is}
 use Rattle.accepted.proofs.values.Statement.{statement}
 use Rattle.accepted.proofs.values.Tie as tie
 
@@ -39,14 +39,18 @@ factor-requires-2 c κs = let r = c .before .before .before .before .before .bef
 section-requires : tie.Need-section-requires
 section-requires c κs = sized (c .before .before .before .before .before .before .before .pre .0)
 
+section-requires-2 : tie.Need-section-requires-2
+section-requires-2 c κs = sized (c .before .before .before .before .before .before .before .before .pre .0)
+
 across-of-requires : tie.Need-across-of-requires
 across-of-requires c κs =
-    let s = c .before .before .before .before .before .before .before .before in
-    subst (λ (l : List ℕ). TransverseFits l (s .args .head .width) (s .args .head .spacing)) (sym (c .section .ensures)) (across-fits (s .pre .0))
+    let s = c .before .before .before .before .before .before .before .before .before in
+    let a = s .args .head in
+    (subst (λ (l : List ℕ). TransverseFits l (a .width) (a .spacing)) (sym (c .before .section .ensures)) (across-fits (s .pre .0)), λ h. subst (λ (l : List ℕ). TransverseFits l (a .second) (a .spacing)) (sym (c .section2 .ensures)) (second-fits (s .pre .0) h))
 
 module _ (c : tie.After-across-of) where
   abbrev formed : tie.After-effect4
-  formed = c .before .before .before .before
+  formed = c .before .before .before .before .before
 
   abbrev two : tie.After-effect2
   two = formed .before .before
@@ -66,35 +70,35 @@ module _ (c : tie.After-across-of) where
   hn-are : hn ≡ effectsOf job HN
   hn-are = effects-are job HN (st .pre .1 .0) (st .pre .1 .1) (two .before .effect .ensures) (two .effect2 .ensures)
 
-  hn-fit : LineEffectsFit hnLineMost hn
-  hn-fit = effects-fit job HN (st .pre .1 .0) (st .pre .1 .1) (two .before .effect .ensures) (two .effect2 .ensures)
+  over : Spanned job (c .across-of .result)
+  over = c .across-of .ensures .1 job (decks-of (st .pre .0) (c .before .before .section .ensures) (c .before .section2 .ensures))
 
-  hn-wide : LineEffectsFit hoLineMost hn
-  hn-wide = wider (lit≤ tt) hn-fit
+  hn-fit : LoadsFit hnLineMost (c .across-of .result) hn
+  hn-fit = loads-fit job HN (st .pre .1 .0) (st .pre .1 .1) (two .before .effect .ensures) (two .effect2 .ensures) over (c .across-of .ensures .0) (line-reach (st .pre .0)) (line-tenth (st .pre .0))
+
+  hn-wide : LoadsFit hoLineMost (c .across-of .result) hn
+  hn-wide = wider-loads (lit≤ tt) hn-fit
 
   ho-are : ho ≡ effectsOf job HO
   ho-are = effects-are job HO (st .pre .1 .0) (st .pre .1 .1) (formed .before .effect3 .ensures) (formed .effect4 .ensures)
 
-  ho-fit : LineEffectsFit hoLineMost ho
-  ho-fit = effects-fit job HO (st .pre .1 .0) (st .pre .1 .1) (formed .before .effect3 .ensures) (formed .effect4 .ensures)
-
-  over : Spanned job (c .across-of .result)
-  over = spanned (st .pre .0) (c .before .section .ensures) (c .across-of .ensures)
+  ho-fit : LoadsFit hoLineMost (c .across-of .result) ho
+  ho-fit = loads-fit job HO (st .pre .1 .0) (st .pre .1 .1) (formed .before .effect3 .ensures) (formed .effect4 .ensures) over (c .across-of .ensures .0) (line-reach (st .pre .0)) (line-tenth (st .pre .0))
 
   -- each question's factor is from 1000 to 1300
   range : (q : Question) → (1000 ≤ dynamicFactor (st .args .head .kind) (dynamicValue (st .args .job .now) (st .args .head) q)) × (dynamicFactor (st .args .head .kind) (dynamicValue (st .args .job .now) (st .args .head) q) ≤ 1300)
   range = dynamic (st .pre .0)
 
   -- what is required with a factor in range and line effects that fit where HO's are asked for
-  ready : {d : ℕ} {x : Effects} → (1000 ≤ d) × (d ≤ 1300) → LineEffectsFit hoLineMost x → AcrossFits (c .across-of .result) × (profileOf (st .args .head .edition) ≡ rural → c .across-of .result .lanes ≡ 1) × (1000 ≤ d) × (d ≤ 1300) × LineEffectsFit hnLineMost hn × LineEffectsFit hoLineMost x
-  ready d x = (c .across-of .ensures .fits, λ r. over .lanes ∙ one-lane (st .pre .0) r, d .0, d .1, hn-fit, x)
+  ready : {d : ℕ} {x : Effects} → (1000 ≤ d) × (d ≤ 1300) → LoadsFit hoLineMost (c .across-of .result) x → AcrossFits (c .across-of .result) × (profileOf (st .args .head .edition) ≡ rural → c .across-of .result .lanes ≡ 1) × (1000 ≤ d) × (d ≤ 1300) × LoadsFit hnLineMost (c .across-of .result) hn × LoadsFit hoLineMost (c .across-of .result) x
+  ready d x = (c .across-of .ensures .0, λ r. over .lanes ∙ one-lane (st .pre .0) r, d .0, d .1, hn-fit, x)
 
 -- HN's line effects fit there too, so only what is ensured tells them apart
 both-requires : tie.Need-both-requires
-both-requires c κs = let e = c .before .before .before .factor .ensures in ready c (omega (arith, range c Greatest, range c Least)) (search (hn-wide c, ho-fit c))
+both-requires c κs = let e = c .before .before .before .before .factor .ensures in ready c (omega (arith, range c Greatest, range c Least)) (search (hn-wide c, ho-fit c))
 
 both-requires-2 : tie.Need-both-requires-2
-both-requires-2 c κs = let at = c .before in let e = at .before .before .factor2 .ensures in ready at (omega (arith, range at Greatest, range at Least)) (search (hn-wide at, ho-fit at))
+both-requires-2 c κs = let at = c .before in let e = at .before .before .before .factor2 .ensures in ready at (omega (arith, range at Greatest, range at Least)) (search (hn-wide at, ho-fit at))
 
 returns : tie.Need-returns
 returns c =
@@ -103,17 +107,18 @@ returns c =
     let most = found .before .both .ensures in
     let lowest = found .both2 .ensures in
     let loads = profile-is (st at .pre .0) in
-    let dg = factor-is (st at .pre .0) Greatest (at .before .before .before .factor .ensures) in
-    let dl = factor-is (st at .pre .0) Least (at .before .before .factor2 .ensures) in
+    let dg = factor-is (st at .pre .0) Greatest (at .before .before .before .before .factor .ensures) in
+    let dl = factor-is (st at .pre .0) Least (at .before .before .before .factor2 .ensures) in
     let g = most .2 (job at) (over at) loads (search (dg, dl)) (hn-are at) (ho-are at) in
     let l = lowest .2 (job at) (over at) loads (search (dg, dl)) (hn-are at) (ho-are at) in
     record {
       normal = record { placed = by-question _ (g .0) (l .0); near = by-question _ (most .0) (lowest .0) };
       overload = record { placed = by-question _ (g .1) (l .1); near = by-question _ (most .1) (lowest .1) };
-      laneCount = over at .lanes;
+      laneCount = over at .first;
+      secondCount = over at .second;
     }
 
 pub values-spec : {M : Type 1} → statement M
 values-spec =
     tie.close
-    (tie.spec (λ c κs. c .before .pre .1 .0 .near) (λ c κs. c .before .before .pre .1 .1 .near) effect-requires-3 effect-requires-4 factor-requires factor-requires-2 section-requires across-of-requires both-requires both-requires-2 returns)
+    (tie.spec (λ c κs. c .before .pre .1 .0 .near) (λ c κs. c .before .before .pre .1 .1 .near) effect-requires-3 effect-requires-4 factor-requires factor-requires-2 section-requires section-requires-2 across-of-requires both-requires both-requires-2 returns)

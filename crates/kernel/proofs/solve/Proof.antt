@@ -16,7 +16,7 @@ use Rattle.model.specs.Answered.{Answered, refused, refusalAnswer, accepted, Ac
 use Rattle.model.specs.declared.Account.{Account}
 use Rattle.model.specs.declared.Header.{Header}
 use Rattle.model.specs.declared.Part.the-variants.{Line}
-use Rattle.model.proofs.Verdict.{clear, header-long, has-header, job-refuses, short-refused, long-accepted}
+use Rattle.model.proofs.Verdict.{clear, has-header, job-refuses, short-refused, long-accepted}
 use Rattle.sections.proofs.Sizes.{counts}
 use Rattle.job.specs.declared.refusals.Ruling.{Ruling}
 use Rattle.pair.specs.LineFits.{LineFits}
@@ -45,7 +45,7 @@ read-requires : tie.Need-read-requires
 read-requires c κs =
     let v = c .before .before .verdict in
     let b = c .before .before .before .before .before .args .job .now in
-    omega (arith, header-long (headerOf b), has-header b (clear _ (is-accepted (v .result) (c .if1 .left) (v .ensures .says)) .c1))
+    has-header b (clear _ (is-accepted (v .result) (c .if1 .left) (v .ensures .says)) .c1)
 
 -- from the header on
 module _ (c : tie.After-read) where
