@@ -1,10 +1,11 @@
 -- The sizes of the parts of a header, and the bytes of a part.
-use mathlib.Core.Path.{_≡_, sym, _∙_, ap, ap₂, subst}
+use mathlib.Core.Path.{_≡_, refl, sym, _∙_, ap, ap₂, subst}
 use mathlib.Core.Option.{none}
 use mathlib.Core.List.{List}
 use Prim.Native.Nat.{ℕ, _+_, _-_, _*_, _≤_, _<_}
-use native.Mathlib.Nat.{div-lt-iff-lt-mul, mul-le-mul}
+use native.Mathlib.Nat.{div-eq-of-lt, div-lt-iff-lt-mul, mul-le-mul}
 use native.Mathlib.Omega.{arith}
+use borrow.Author.Tests.{eqb-true}
 use lib.Dec.{eqb}
 use lib.ListN.{take, drop, length}
 use Rattle.exact.specs.Choice.{if_then_else_}
@@ -31,6 +32,7 @@ counted b e =
       pieces = f .pieces .most;
       spaced = omega (arith, f .spacing .least);
       spacing = f .spacing .most;
+      wide = omega (arith, f .wide .least);
       width = f .wide .most;
       second = second-most (f .carriageways);
       effects = f .effects .most;
@@ -46,10 +48,16 @@ counted b e =
 pub few-spaces : {w g : ℕ} → w ≤ 2079 → 0 < g → spaces w g < 2080
 few-spaces {w} {g} h p = let l : w + g - 1 < 2080 * g = omega arith in div-lt-iff-lt-mul p .1 l
 
--- so few ordinates across a carriageway
-pub few-across : (w g : ℕ) → w ≤ 2079 → 0 < g → acrossLayout w g .items ≤ 2080
-few-across w g h p =
-    by-test (eqb w 0) (λ t. (if t then 0 else spaces w g + 1) ≤ 2080) (λ _. omega arith) (λ _. omega (arith, few-spaces h p))
+-- the ordinates across a carriageway are its spaces and the far edge
+pub across-is : (w g : ℕ) → 0 < g → acrossLayout w g .items ≡ spaces w g + (if eqb w 0 then 0 else 1)
+across-is w g p =
+    by-test (eqb w 0) (λ t. (if t then 0 else spaces w g + 1) ≡ spaces w g + (if t then 0 else 1))
+    (λ t. let z = eqb-true w 0 t in let h : spaces w g ≡ 0 = div-eq-of-lt (omega arith) in omega arith)
+    (λ _. refl)
+
+-- so they are few
+few-across : (w g : ℕ) → w ≤ 2079 → 0 < g → acrossLayout w g .items ≤ 2080
+few-across w g h p = by-test (eqb w 0) (λ t. (if t then 0 else spaces w g + 1) ≤ 2080) (λ _. omega arith) (λ _. omega (arith, few-spaces h p))
 
 -- no part has more words than its counts allow
 pub few-words : (head : Header) (part : Part) → Counted head → {p : ℕ} → p < words head part → p ≤ 27040

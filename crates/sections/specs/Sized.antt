@@ -8,11 +8,12 @@ use Rattle.model.specs.Format.{headerOf, wordsDue}
 use Rattle.model.specs.Refusals.{fault2}
 use Rattle.model.specs.declared.Header.{Header}
 
--- counts within their limits, and a spacing to divide by: enough for the arithmetic of places
+-- counts within their limits, a spacing to divide by and a carriageway: enough for the arithmetic of places
 pub record Counted (head : Header) : Type 0 where
   pub pieces : head .pieces ≤ 1000
   pub spaced : 0 < head .spacing
   pub spacing : head .spacing ≤ 50
+  pub wide : 0 < head .width
   pub width : head .width ≤ 2079
   pub second : head .second ≤ 2079
   pub effects : head .effects ≤ 16

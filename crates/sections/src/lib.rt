@@ -3,8 +3,10 @@ pub mod header;
 
 ghost use mathlib.Core.Path.{_≡_};
 ghost use Prim.Native.Nat.{_≤_, _<_};
+ghost use lib.Dec.{eqb};
 ghost use lib.ListN.{length};
-ghost use Rattle.model.specs.Format.{effectUnit, acrossLayout, format, effectSize, words, start, wordsDue, sectionOf};
+ghost use Rattle.exact.specs.Choice.{if_then_else_};
+ghost use Rattle.model.specs.Format.{effectUnit, spaces, format, effectSize, words, start, wordsDue, sectionOf};
 ghost use Rattle.sections.specs.Sized.{Counted, Sized};
 use model::Edition;
 use model::Header;
@@ -36,15 +38,22 @@ pub fn item_words(head: Header, part: Part) -> usize
     }
 }
 
-// The ordinates across a carriageway w cm wide, g cm apart; none where it has no width.
-fn ordinates_across(w: usize, g: usize) -> usize
+// M: W / g rounded up.
+fn spaces(w: usize, g: usize) -> usize
     requires { ⌜ (w ≤ 2079) × (0 < g) × (g ≤ 50) ⌝ }
-    ensures { λ r. ⌜ (r ≡ acrossLayout w g .items) × (r ≤ 2080) ⌝ }
+    ensures { λ r. ⌜ (r ≡ spaces w g) × (r ≤ 2079) ⌝ }
+{
+    (w + g - 1) / g
+}
+
+// The ordinate at a carriageway's far edge: one, or none of no carriageway, whose width is 0.
+fn far_edge(w: usize) -> usize
+    ensures { λ r. ⌜ (r ≡ (if eqb w 0 then 0 else 1)) × (r ≤ 1) ⌝ }
 {
     if w == 0 {
         return 0;
     }
-    (w + g - 1) / g + 1
+    1
 }
 
 // The number of items.
@@ -55,8 +64,8 @@ pub fn items(head: Header, part: Part) -> usize
     match part {
         Part::Head => 1,
         Part::Line => head.pieces,
-        Part::Transverse => ordinates_across(head.width, head.spacing),
-        Part::SecondTransverse => ordinates_across(head.second, head.spacing),
+        Part::Transverse => spaces(head.width, head.spacing) + 1,
+        Part::SecondTransverse => spaces(head.second, head.spacing) + far_edge(head.second),
         Part::Effects => head.effects,
         Part::Rows => head.rows,
         Part::Records => head.records,

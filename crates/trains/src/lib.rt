@@ -64,7 +64,7 @@ fn header(h: usize, pieces: usize) -> Header
         h,
         pieces,
         spacing: 1,
-        width: 0,
+        width: 1,
         kind: 0,
         value: 0,
         effects: 0,
