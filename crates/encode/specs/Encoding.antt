@@ -54,9 +54,9 @@ abbrev pub limitNumbers : State → List ℤ
 limitNumbers Absent = replicate 11 (pos 0)
 limitNumbers (Reported greatest least) = pos 1 ∷ governingNumbers greatest ++ governingNumbers least
 
--- the lanes of the carriageway; those of a second one and the records walked are reserved
+-- the lanes of the carriageway and of a second one; the records walked are reserved
 abbrev pub countNumbers : Account → List ℤ
-countNumbers a = pos (a .lanes) ∷ pos 0 ∷ pos 0 ∷ []
+countNumbers a = pos (a .lanes) ∷ pos (a .second) ∷ pos 0 ∷ []
 
 -- the numbers of an account; those of its placements are in placements/specs/PlacementNumbers.antt
 abbrev pub accountNumbers : Account → List ℤ
@@ -79,3 +79,4 @@ pub record CountsFit (a : Account) : Type 0 where
   pub service : RowsFit (a .service)
   pub ultimate : RowsFit (a .ultimate)
   pub lanes : a .lanes < 2 ^ 63
+  pub second : a .second < 2 ^ 63

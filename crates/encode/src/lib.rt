@@ -108,14 +108,15 @@ fn put_states(out: &mut [u8], at: usize, service: State, ultimate: State) -> usi
     put_state(out, end, ultimate)
 }
 
-// The lanes of the carriageway, and what is reserved.
-fn put_counts(out: &mut [u8], at: usize, lanes: usize) -> usize
+// The lanes of each carriageway, and what is reserved.
+fn put_counts(out: &mut [u8], at: usize, lanes: usize, second: usize) -> usize
     requires { ⌜ at + 24 ≤ length (now out) ⌝ }
-    requires { ⌜ lanes < 2 ^ 63 ⌝ }
-    ensures { λ r. ⌜ Written (now (out .entry)) at (pos lanes ∷ pos 0 ∷ pos 0 ∷ []) (now (out .exit)) r ⌝ }
+    requires { ⌜ (lanes < 2 ^ 63) × (second < 2 ^ 63) ⌝ }
+    ensures { λ r. ⌜ Written (now (out .entry)) at (pos lanes ∷ pos second ∷ pos 0 ∷ []) (now (out .exit)) r ⌝ }
 {
-    let end = numbers::put_count(out, at, lanes as u64);
-    numbers::put_zeros(out, end, 2)
+    let mut end = numbers::put_count(out, at, lanes as u64);
+    end = numbers::put_count(out, end, second as u64);
+    numbers::put_zeros(out, end, 1)
 }
 
 // The bytes of an account at the front of a buffer; the rest keeps its contents.
@@ -133,7 +134,7 @@ pub fn write(out: &mut [u8], a: Account)
     end = placements::put_placements(out, end, normal);
     end = placements::put_placements(out, end, overload);
     end = put_states(out, end, service, ultimate);
-    put_counts(out, end, a.lanes);
+    put_counts(out, end, a.lanes, a.second);
 }
 
 // Every byte of a buffer 0.

@@ -1,6 +1,6 @@
 // Reads a job from standard input and prints its four lines, or its refusal.
 fn main() {
-    let mut buffer = [0u8; 16384];
+    let mut buffer = [0u8; 32768];
     let n = io::read_full(0, &mut buffer);
     if os::errno() != 0 {
         os::fail(b"standard input");

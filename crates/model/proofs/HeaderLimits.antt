@@ -47,6 +47,11 @@ pub data Carriageways (b : List ℕ) : Type 0 where
   one : headerOf b .second ≡ 0 → Carriageways b
   two : headerOf b .edition ≡ Third → 300 ≤ headerOf b .second → headerOf b .second ≤ 2079 → Carriageways b
 
+-- either way at most 2079
+pub second-most : {b : List ℕ} → Carriageways b → headerOf b .second ≤ 2079
+second-most (one e) = omega arith
+second-most (two e l m) = m
+
 -- each header word within its limits
 pub record HeaderFits (b : List ℕ) : Type 0 where
   pub length : OneOf (1 ∷ 2 ∷ 5 ∷ 10 ∷ 25 ∷ 50 ∷ []) (headerOf b .h)

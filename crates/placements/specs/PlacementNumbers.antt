@@ -1,8 +1,7 @@
--- An account's placements as numbers. A reserved number is 0.
+-- An account's placements as numbers.
 use Prim.Native.Nat.{ℕ, zero, suc, _<_, _^_}
 use mathlib.Core.List.{List, [], _∷_, _++_}
 use lib.IntN.{ℤ, pos}
-use lib.ListN.{replicate}
 use Rattle.model.specs.Numbers.{entryNumber}
 use Rattle.model.specs.Answered.{laneAt}
 use Rattle.model.specs.declared.Lane.{Lane}
@@ -18,14 +17,14 @@ abbrev pub lanesNumbers : Placement → ℕ → List ℤ
 lanesNumbers p zero = []
 lanesNumbers p (suc n) = lanesNumbers p n ++ laneNumbers (laneAt p n)
 
--- a placement's lane set, its five lanes, and five unloaded ones
+-- a placement's lane set and its ten lanes
 abbrev pub placementNumbers : Placement → List ℤ
-placementNumbers p = pos (p .set) ∷ lanesNumbers p 5 ++ replicate 15 (pos 0)
+placementNumbers p = pos (p .set) ∷ lanesNumbers p 10
 
 -- the placements of a live kind's greatest and least value
 abbrev pub placementsNumbers : Traffic → List ℤ
 placementsNumbers t = placementNumbers (t .greatest .placement) ++ placementNumbers (t .least .placement)
 
--- a live kind's centres, in n-ths of a cm, are read back as they are by a reader of signed numbers
+-- a live kind's centres, in n-ths of a cm of their carriageways, are read back as they are by a reader of signed numbers
 abbrev pub CentresFit : Traffic → Type 0
 CentresFit t = (i : ℕ) → (laneAt (t .greatest .placement) i .centre < 2 ^ 63) × (laneAt (t .least .placement) i .centre < 2 ^ 63)

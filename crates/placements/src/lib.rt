@@ -69,27 +69,26 @@ fn put_lane(out: &mut [u8], at: usize, l: Lane) -> usize
 
 // The lanes of a placement.
 fn put_lanes(out: &mut [u8], at: usize, p: Placement) -> usize
-    requires { ⌜ at + 120 ≤ length (now out) ⌝ }
+    requires { ⌜ at + 240 ≤ length (now out) ⌝ }
     requires { ⌜ ((i : ℕ) → laneAt p i .centre < 2 ^ 63) ⌝ }
-    ensures { λ r. ⌜ Written (now (out .entry)) at (lanesNumbers p 5) (now (out .exit)) r ⌝ }
+    ensures { λ r. ⌜ Written (now (out .entry)) at (lanesNumbers p 10) (now (out .exit)) r ⌝ }
 {
     let mut end = at;
-    for i in 0..5 {
+    for i in 0..10 {
         let lane = p.lanes[i];
         end = put_lane(out, end, lane);
     }
     end
 }
 
-// A lane set, the lanes, and as many unloaded ones.
+// A lane set and the lanes.
 fn put_placement(out: &mut [u8], at: usize, p: Placement) -> usize
     requires { ⌜ at + 248 ≤ length (now out) ⌝ }
     requires { ⌜ ((i : ℕ) → laneAt p i .centre < 2 ^ 63) ⌝ }
     ensures { λ r. ⌜ Written (now (out .entry)) at (placementNumbers p) (now (out .exit)) r ⌝ }
 {
-    let mut end = numbers::put_count(out, at, p.set as u64);
-    end = put_lanes(out, end, p);
-    numbers::put_zeros(out, end, 15)
+    let end = numbers::put_count(out, at, p.set as u64);
+    put_lanes(out, end, p)
 }
 
 // The placements of the two values of a live kind.

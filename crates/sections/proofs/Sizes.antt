@@ -15,7 +15,7 @@ use Rattle.model.specs.declared.Header.{Header}
 use Rattle.model.specs.declared.Part.{Part}
 use Rattle.model.specs.declared.Part.the-variants.{Head, Line, Transverse, SecondTransverse, Effects, Rows, Records}
 use Rattle.model.specs.Refusals.{fault1, fault2, fault3}
-use Rattle.model.proofs.HeaderLimits.{Carriageways, one, two, header-fits}
+use Rattle.model.proofs.HeaderLimits.{header-fits, second-most}
 use Rattle.model.proofs.Sections.{section-length}
 use Rattle.model.proofs.Verdict.{header-short, effect-size, two-or-three, size-fits, part-inside}
 use Rattle.sections.specs.Sized.{Counted, Sized}
@@ -39,10 +39,6 @@ counted b e =
       rows = f .rows .most;
       records = f .records .most;
     }
-  where
-    second-most : Carriageways b → headerOf b .second ≤ 2079
-    second-most (one z) = omega arith
-    second-most (two t l m) = m
 
 -- there are no more spaces than cm
 pub few-spaces : {w g : ℕ} → w ≤ 2079 → 0 < g → spaces w g < 2080

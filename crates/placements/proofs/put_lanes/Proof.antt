@@ -14,10 +14,10 @@ use Rattle.placements.proofs.put_lanes.Statement.{statement}
 use Rattle.placements.proofs.put_lanes.Tie as tie
 
 abbrev Inv-loop : tie.InvT-loop
-Inv-loop out₀ at p end₀ i₀ out end i = (i ≤ 5) × Written out₀ at (lanesNumbers p i) out end
+Inv-loop out₀ at p end₀ i₀ out end i = (i ≤ 10) × Written out₀ at (lanesNumbers p i) out end
 
 abbrev μ-loop : tie.MeasureT-loop
-μ-loop out₀ at p end₀ i₀ out end i = 5 - i
+μ-loop out₀ at p end₀ i₀ out end i = 10 - i
 
 -- three numbers a lane
 three-a-lane : (p : Placement) (n : ℕ) → length (lanesNumbers p n) ≡ 3 * n
@@ -43,7 +43,7 @@ returns : tie.Need-returns Inv-loop μ-loop
 returns c =
     let l = c .before .loop in
     let a = c .before .before .before .args in
-    let e : l .i ≡ 5 = omega arith in
+    let e : l .i ≡ 10 = omega arith in
     retold (ap (lanesNumbers (a .t3)) e) (l .inv .1)
 
 pub put-lanes-spec : {M : Type 1} → statement M

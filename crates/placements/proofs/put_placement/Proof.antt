@@ -5,10 +5,9 @@ use Rattle.placements.proofs.put_placement.Tie as tie
 
 returns : tie.Need-returns
 returns c =
-    let p3 = c .before .before in
-    let p2 = p3 .before .before .before .before in
+    let p2 = c .before .before in
     let p1 = p2 .before .before .before .before in
-    and-then (and-then (p1 .put-count .ensures) (p2 .put-lanes .ensures)) (p3 .put-zeros .ensures)
+    and-then (p1 .put-count .ensures) (p2 .put-lanes .ensures)
 
 pub put-placement-spec : {M : Type 1} → statement M
-put-placement-spec = tie.close (tie.spec (λ c. search needs) (λ c κs. search needs) (λ c κs. search needs) (λ c κs. search needs) (λ c. search needs) returns)
+put-placement-spec = tie.close (tie.spec (λ c. search needs) (λ c κs. search needs) (λ c κs. search needs) (λ c. search needs) returns)
