@@ -102,10 +102,16 @@ pub const PAST_LIMITS: [&[Change]; 51] = [
     &[(RECORD + 2, i32::MAX)],
 ];
 
-/// All chosen cases: those of the streams, then those that go with none.
+/// All chosen cases.
 pub fn all() -> impl Iterator<Item = Case> {
-    let of_streams = Stream::ALL.into_iter().flat_map(cases);
-    of_streams.chain(overload_lanes::cases())
+    Stream::ALL.into_iter().flat_map(stored_after)
+}
+
+/// The chosen cases that are stored after a stream's generated ones: those that go with
+/// it, and after the last of edition 2 those of additional overload lanes.
+pub fn stored_after(stream: Stream) -> impl Iterator<Item = Case> {
+    let of_lanes = (stream == Stream::Spans).then(overload_lanes::cases);
+    cases(stream).chain(of_lanes.into_iter().flatten())
 }
 
 /// The chosen cases that go with a stream, in the order in which they are stored.
@@ -120,6 +126,7 @@ pub fn cases(stream: Stream) -> impl Iterator<Item = Case> {
         Stream::Two => edition_2::cases(),
         Stream::Four => farm::cases(),
         Stream::Spans => spans::cases(),
+        Stream::Three => vec![],
     };
     cases.into_iter()
 }
@@ -247,6 +254,7 @@ fn bare_job(edition: Edition, further_header: Vec<i64>) -> Job {
         further_header,
         pieces: vec![level_piece(8)],
         transverse: vec![100, 250, 333, 500, 21, -70, -900],
+        second_transverse: vec![],
         effects: vec![],
         rows: vec![],
         records: vec![],

@@ -4,7 +4,6 @@
 
 use second::generator::{self, Stream};
 use second::job::Job;
-use second::lanes::lane_count;
 use second::train::page::{page, truck_line};
 use second::train::{self, Axle, TrainCase, REPORT_BYTES};
 use second::{arch_job, deck_job, farm_job, job_a, line, report, sampler, solve, store, words};
@@ -38,7 +37,7 @@ const USAGE: &str = "usage:
 ";
 
 /// The most bytes of standard input that are read.
-const MOST_INPUT_BYTES: u64 = 16384;
+const MOST_INPUT_BYTES: u64 = 32768;
 
 /// The patch buffer the program lends: a byte for each of the most pieces.
 const PATCH_BYTES: usize = 1000;
@@ -108,9 +107,7 @@ fn account() -> Result<(), Failure> {
     if answer.refusal != 0 {
         return write_out(report::report(&answer).as_bytes());
     }
-    let job = Job::decode(&words::words_of(&job));
-    let page = report::page(lane_count(job.width), &answer.account);
-    write_out(page.as_bytes())
+    write_out(report::page(&answer.account).as_bytes())
 }
 
 fn beat(seed: u64, tries: u32) -> Result<(), Failure> {

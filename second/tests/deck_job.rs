@@ -79,7 +79,7 @@ service least 129802515300 row 1, left out 2, traffic counts
 ultimate greatest 757724301000 row 2, left out 0, traffic counts
 ultimate least 109734018000 row 2, left out 2, traffic counts
 ";
-    assert_eq!(page(4, &account_of(&deck_job())), expected);
+    assert_eq!(page(&account_of(&deck_job())), expected);
 }
 
 /// The furthest of some numbers, and how many of them are as far.
@@ -150,7 +150,7 @@ fn in_lane(job: &Job, lane: usize, element: Element) -> Vec<i128> {
     let directions = [Direction::Raising, Direction::Lowering];
     let effects = directions.map(|direction| longitudinal_effect(job, element, direction));
     let centres = breakpoint_centres(job, lane).into_iter();
-    let ordinates = centres.map(|centre| transverse_ordinate(job, centre));
+    let ordinates = centres.map(|centre| transverse_ordinate(job, lane, centre));
     ordinates
         .flat_map(|ordinate| effects.map(|effect| i128::from(effect) * i128::from(ordinate)))
         .collect()
@@ -181,8 +181,8 @@ fn no_other_placement_is_as_good() {
     let job = deck_job();
     for lane in 0..4 {
         let centres = breakpoint_centres(&job, lane);
-        let level =
-            |ends: &[i64]| transverse_ordinate(&job, ends[0]) == transverse_ordinate(&job, ends[1]);
+        let ordinate = |centre: i64| transverse_ordinate(&job, lane, centre);
+        let level = |ends: &[i64]| ordinate(ends[0]) == ordinate(ends[1]);
         assert!(!centres.windows(2).any(level), "lane {}", lane + 1);
     }
     let due = [

@@ -7,16 +7,23 @@ use second::account::{Account, Governing, Lane, Stand, State, Traffic};
 use second::report::page;
 use second::solve::account_of;
 
+/// These lanes, and unloaded ones past them.
+fn ten_lanes(five: [Lane; 5]) -> [Lane; 10] {
+    let mut lanes = [Lane::default(); 10];
+    lanes[..5].copy_from_slice(&five);
+    lanes
+}
+
 #[test]
 fn every_part_of_an_account_is_told() {
     let traffic = |value, set, lanes: [(u32, i64, i64); 5]| Traffic {
         value,
         set,
-        lanes: lanes.map(|(entry, centre, factor)| Lane {
+        lanes: ten_lanes(lanes.map(|(entry, centre, factor)| Lane {
             entry,
             centre,
             factor,
-        }),
+        })),
     };
     let unloaded = (0, 0, 0);
     let account = Account {
@@ -68,6 +75,8 @@ fn every_part_of_an_account_is_told() {
                 k: 0,
             },
         },
+        first_lanes: 5,
+        second_lanes: 0,
     };
     let expected = "\
 normal greatest 31 N.U
@@ -90,7 +99,7 @@ service none
 ultimate greatest 41 row 32, left out 10, traffic counts, k 1300
 ultimate least -42 row 1, left out 0, traffic left out
 ";
-    assert_eq!(page(5, &account), expected);
+    assert_eq!(page(&account), expected);
 }
 
 /// The pair is as good at station 1, from either side, as at 2. Lane 1 is as
@@ -129,5 +138,5 @@ service greatest 0 row 1, left out 0, traffic counts
 service least 0 row 1, left out 0, traffic counts
 ultimate none
 ";
-    assert_eq!(page(5, &account_of(&job)), expected);
+    assert_eq!(page(&account_of(&job)), expected);
 }

@@ -152,11 +152,11 @@ fn a_directory_as_standard_input_is_an_error() {
     assert!(message.starts_with("second: cannot read standard input"));
 }
 
-/// Job A has 85 words. Were all 20001 bytes read, their count would not be
-/// divisible by 4 and the refusal would be 1; the 16384 read are 4096 words.
+/// Job A has 85 words. Were all 40001 bytes read, their count would not be
+/// divisible by 4 and the refusal would be 1; the 32768 read are 8192 words.
 #[test]
-fn only_16384_bytes_are_read() {
-    for length in [16384, 16385, 20000, 20001] {
+fn only_32768_bytes_are_read() {
+    for length in [16384, 20000, 32768, 32769, 40000, 40001] {
         let mut job = job_a();
         job.resize(length, 0);
         prints(
@@ -165,8 +165,11 @@ fn only_16384_bytes_are_read() {
         );
     }
     let mut job = job_a();
-    job.resize(16383, 0);
-    prints(&second_on("16383-bytes", &job), "refused 1 at 0\n");
+    for length in [16383, 16385, 32767] {
+        job.resize(length, 0);
+        let name = format!("{length}-bytes");
+        prints(&second_on(&name, &job), "refused 1 at 0\n");
+    }
 }
 
 /// Job A without its ultimate row: word 8 is R, and rows are at words 71 to 78.
@@ -206,7 +209,7 @@ ultimate greatest 0 row 1 least 0 row 1
 #[test]
 fn account_prints_the_page_of_the_account() {
     let account = second::solve(&job_a(), &mut [0; 20]).account;
-    let page = second::report::page(2, &account);
+    let page = second::report::page(&account);
     prints(&command_on(&["account"], "account", &job_a()), &page);
     prints(&second(&["account"], Stdio::null()), "refused 1 at 0\n");
 }
@@ -338,7 +341,7 @@ fn unknown_arguments_are_a_usage_error() {
         &["generate", "7", "1", "."],
         &["generate", "1", "-1", "2", "."],
         &["generate", "0", "1", "1", "."],
-        &["generate", "3", "1", "1", "."],
+        &["generate", "5", "1", "1", "."],
         &["generate", "Spans", "1", "1", "."],
         &["generate", "4294967300", "1", "1", "."],
         &["farm-job", "more"],

@@ -14,7 +14,9 @@ use second::farm_job::farm_job;
 use second::generator::{sound_job, Stream};
 use second::job::Job;
 use second::job_a::job_a;
-use second::lanes::{breakpoint_centres, centre_limits, lane_count, transverse_ordinate};
+use second::lanes::{
+    breakpoint_centres, centre_limits, common_denominator, lanes_of_job, transverse_ordinate,
+};
 use second::line::{
     ordinate, pair_ordinates, pieces_between_axles, stations, uniform_effect, Stand,
 };
@@ -25,20 +27,22 @@ use second::solve::account_of;
 use second::traffic::lanes_of;
 use std::collections::BTreeSet;
 
-/// The others half as often as edition 1.
-const STREAMS: [Stream; 5] = [
+/// The others half as often as editions 1 and 3.
+const STREAMS: [Stream; 7] = [
     Stream::One,
     Stream::One,
     Stream::Four,
     Stream::Two,
     Stream::Spans,
+    Stream::Three,
+    Stream::Three,
 ];
 
 #[test]
 fn every_draw_is_lawful() {
     for seed in 0..400 {
         let mut rng = Rng::new(seed);
-        let job = sound_job(&mut rng, STREAMS[seed as usize % 5]);
+        let job = sound_job(&mut rng, STREAMS[seed as usize % STREAMS.len()]);
         let sampler = Sampler::new(&job);
         for live in Live::BOTH {
             for question in Question::BOTH {
@@ -101,7 +105,7 @@ fn values_short_by_1_are_beaten() {
         |account| account.ultimate.least.value += 1,
     ];
     let sound_jobs =
-        (0..120).map(|seed| sound_job(&mut Rng::new(seed), STREAMS[seed as usize % 5]));
+        (0..120).map(|seed| sound_job(&mut Rng::new(seed), STREAMS[seed as usize % STREAMS.len()]));
     let jobs = sound_jobs.chain([job_a(), two_lane_job(), farm_job(), arch_job(), deck_job()]);
     for (job_number, job) in jobs.enumerate() {
         let account = account_of(&job);
@@ -305,7 +309,7 @@ fn sham_value(job: &Job, sham: Sham, live: Live, question: Question) -> i64 {
     if live == Live::Overload && job.edition == Edition::Four {
         return 0;
     }
-    let lanes = lane_count(job.width);
+    let lanes = lanes_of_job(job);
     let of_element = |element: Element| -> Vec<i128> {
         let in_direction = |direction| sham_longitudinal(job, sham, question, element, direction);
         let raising = in_direction(Direction::Raising);
@@ -314,14 +318,14 @@ fn sham_value(job: &Job, sham: Sham, live: Live, question: Question) -> i64 {
             _ => in_direction(Direction::Lowering),
         };
         let in_lane = |lane: usize| {
-            let limits = centre_limits(job.width, lane);
+            let limits = centre_limits(job, lane);
             let centres = match sham {
                 Sham::TriesLimitsOnlyForCentres => vec![*limits.start(), *limits.end()],
                 _ => breakpoint_centres(job, lane),
             };
             let ordinates = centres
                 .into_iter()
-                .map(|centre| i128::from(transverse_ordinate(job, centre)));
+                .map(|centre| i128::from(transverse_ordinate(job, lane, centre)));
             furthest(
                 question,
                 ordinates.flat_map(|t| [t * raising, t * lowering]),
@@ -365,12 +369,12 @@ fn sham_value(job: &Job, sham: Sham, live: Live, question: Question) -> i64 {
             )
         }
     };
-    let n_times_g = lanes as i128 * i128::from(job.spacing);
+    let denominator = i128::from(common_denominator(job));
     let twentieths = match job.edition {
         Edition::Four => 17,
         _ => 20,
     };
-    let (dividend, divisor) = (3 * sum, 800_000 * n_times_g);
+    let (dividend, divisor) = (3 * sum, 800_000 * denominator);
     let effect = match sham {
         Sham::TakesTheShareAfterRounding => question.round(dividend, divisor) * twentieths / 20,
         _ => question.round(dividend * twentieths, divisor * 20),
@@ -434,7 +438,8 @@ fn sham_row(
 
 fn sham_part(job: &Job, sham: Sham, part: Part, question: Question) -> i64 {
     let effect = job.effects[part.effect - 1];
-    let newtons = effect.value * if job.edition == Edition::Two { 1 } else { 1000 };
+    let in_newtons = [Edition::Two, Edition::Three].contains(&job.edition);
+    let newtons = effect.value * if in_newtons { 1 } else { 1000 };
     let low_half = newtons.rem_euclid(1 << 32);
     let counted = match sham {
         Sham::DropsTheHighHalf => low_half,
