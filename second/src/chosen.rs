@@ -2,10 +2,12 @@
 //! write its builder, with the reason above it, and put it at the end of
 //! BUILDERS; or, where words of Job A changed will do, put them into PAST_LIMITS.
 //! Those of edition 4 are in chosen/farm.rs, those of edition 2 in
-//! chosen/edition_2.rs, those with spans by sign in chosen/spans.rs. Those of
-//! additional overload lanes, in chosen/overload_lanes.rs, go with no one stream.
+//! chosen/edition_2.rs, those with spans by sign in chosen/spans.rs, those of edition 3
+//! in chosen/edition_3.rs. Those of additional overload lanes, in
+//! chosen/overload_lanes.rs, go with no one stream.
 
 mod edition_2;
+pub mod edition_3;
 mod farm;
 pub mod overload_lanes;
 mod spans;
@@ -126,7 +128,7 @@ pub fn cases(stream: Stream) -> impl Iterator<Item = Case> {
         Stream::Two => edition_2::cases(),
         Stream::Four => farm::cases(),
         Stream::Spans => spans::cases(),
-        Stream::Three => vec![],
+        Stream::Three => edition_3::cases(),
     };
     cases.into_iter()
 }
