@@ -132,6 +132,41 @@ fn the_deck_job_prints_its_lines() {
     prints(&beat, "not beaten in 500 tries\n");
 }
 
+const MOTORWAY_JOB_LINES: &str = "\
+normal greatest 83867801 least -11451558
+overload greatest 148202927 least -21401111
+service greatest 279231531350 row 1 least 112240396700 row 1
+ultimate greatest 421516390500 row 2 least 121138333500 row 2
+";
+
+/// The figures are worked out in motorway_job.rs. Its header is 13 words, and 13 + 28 + 29 +
+/// 20 + 6 + 8 + 12 = 116 are due.
+#[test]
+fn the_motorway_job_prints_its_lines() {
+    let output = second(&["motorway-job"], Stdio::null());
+    assert_eq!(output.status.code(), Some(0));
+    let job = output.stdout;
+    prints(&second_on("motorway-job", &job), MOTORWAY_JOB_LINES);
+    prints(&second_on("motorway-front", &job[..48]), "refused 1 at 0\n");
+    let header = second_on("motorway-header", &job[..52]);
+    prints(&header, "refused 3 at 116\n");
+    let beat = command_on(&["beat", "1", "500"], "motorway-job-beat", &job);
+    prints(&beat, "not beaten in 500 tries\n");
+}
+
+/// The longest job there is, of 16572 bytes, is read whole.
+#[test]
+fn the_longest_job_is_answered() {
+    let job = second::chosen::edition_3::longest().bytes();
+    assert_eq!(job.len(), 16_572);
+    let answer = second::solve(&job, &mut [0; 1000]);
+    assert_eq!(answer.refusal, 0);
+    prints(
+        &second_on("longest-job", &job),
+        &second::report::report(&answer),
+    );
+}
+
 #[test]
 fn job_a_prints_its_four_lines() {
     prints(&second_on("job-a", &job_a()), JOB_A_LINES);

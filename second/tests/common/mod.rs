@@ -6,6 +6,7 @@
 pub mod call;
 pub mod definition;
 pub mod farm_tables;
+pub mod one_best;
 pub mod overload;
 pub mod refusals;
 pub mod streams;
