@@ -6,8 +6,8 @@ use crate::job::{
     SERVICE, SPANS_BY_SIGN, ULTIMATE,
 };
 
-/// The ordinates in cm of the span of 20 m, every 2.5 m from its abutment to the pier; the
-/// section is 7.5 m from the abutment.
+/// The ordinates in cm of the span of 20 m, every 2.5 m from its abutment to the pier;
+/// the section is 7.5 m from the abutment.
 const LONG_SPAN: [i64; 9] = [0, 130, 262, 400, 295, 200, 117, 50, 0];
 
 /// The ordinates of the span of 15 m, from the pier to its abutment.
@@ -27,9 +27,9 @@ const SECOND: [i64; 20] = [
     9, 2, -4, -9, -13, -15, -17, -19, -20, -20,
 ];
 
-/// The moment 7.5 m from the abutment of the longer span in a beam continuous over spans of
-/// 20 m and 15 m, in cm, of a girder near the median; carriageways of 11 m with three lanes
-/// and of 7.6 m with two.
+/// The moment 7.5 m from the abutment of the longer span in a beam continuous over
+/// spans of 20 m and 15 m, in cm, of a girder near the median; carriageways of 11 m
+/// with three lanes and of 7.6 m with two.
 pub fn motorway_job() -> Job {
     let spans = [&LONG_SPAN[..], &SHORT_SPAN];
     Job {

@@ -1,11 +1,11 @@
 //! 02 "Two carriageways": stored jobs with lanes on both sides of a median, worked out by
 //! hand.
 //!
-//! But for the last ones the line is 8 over 5 m, then -6 over 5 m, so raising HN is 7 * 50 *
-//! 16 + 1600 * 8 = 18400 and HO 31200, lowering HN 7 * 50 * -12 - 1600 * 6 = -13800 and HO
-//! -23400. With a dynamic factor of 1000 a lane under an ordinate of 1000 gives 18400 * 1000
-//! * 3 / 800 = 69000 N·U for each twentieth, HO 2340000. Least is -3/4 of greatest where no
-//! ordinate is below 0.
+//! But for the last ones the line is 8 over 5 m, then -6 over 5 m, so raising HN is 7 *
+//! 50 * 16 + 1600 * 8 = 18400 and HO 31200, lowering HN 7 * 50 * -12 - 1600 * 6 =
+//! -13800 and HO -23400. With a dynamic factor of 1000 a lane under an ordinate of 1000
+//! gives 18400 * 1000 * 3 / 800 = 69000 N·U for each twentieth, HO 2340000. Least is
+//! -3/4 of greatest where no ordinate is below 0.
 
 mod common;
 
@@ -46,8 +46,8 @@ fn values(account: &Account) -> [i64; 4] {
 const HO: i64 = -1;
 const NO: i64 = 0;
 
-/// The factors of so many lanes, with `HO` and `NO` for those that have none; the lanes past
-/// them have nothing.
+/// The factors of so many lanes, with `HO` and `NO` for those that have none; the lanes
+/// past them have nothing.
 #[track_caller]
 fn marked_factors(traffic: &Traffic, lanes: usize) -> Vec<i64> {
     assert_eq!(traffic.lanes[lanes..], [Default::default(); 10][lanes..]);
@@ -70,8 +70,9 @@ fn centres(traffic: &Traffic, lanes: usize) -> Vec<i64> {
     lanes.map(|lane| lane.centre).collect()
 }
 
-/// Lanes of 650, 950 and 350, normal 16 * (650 + 950 + 350) * 69 = 2152800; overload 20 * 950
-/// * 117 = 2223000 for HO in the second and (20 * 650 + 18 * 350) * 69 = 1331700 beside it.
+/// Lanes of 650, 950 and 350, normal 16 * (650 + 950 + 350) * 69 = 2152800; overload 20 *
+/// 950 * 117 = 2223000 for HO in the second and (20 * 650 + 18 * 350) * 69 = 1331700
+/// beside it.
 #[test]
 fn three_lanes_beside_nothing() {
     let due = [2_152_800, -1_614_600, 3_554_700, -2_666_025];
@@ -109,10 +110,10 @@ fn every_deck_beside_nothing() {
     }
 }
 
-/// Every lane under 1000 is loaded. Normal is 69000 times the number of lanes times r, which
-/// comes to 36, 48, 56, 60, 66, 77, 88, 99 and 110 for two lanes to ten. Overload is 2340000
-/// and 69000 times the factors beside HO, which come to 20, 38, 54, 68, 80, 91, 102, 113 and
-/// 124 for one additional lane to nine.
+/// Every lane under 1000 is loaded. Normal is 69000 times the number of lanes times r,
+/// which comes to 36, 48, 56, 60, 66, 77, 88, 99 and 110 for two lanes to ten. Overload
+/// is 2340000 and 69000 times the factors beside HO, which come to 20, 38, 54, 68, 80,
+/// 91, 102, 113 and 124 for one additional lane to nine.
 #[test]
 fn every_pair_of_lane_counts() {
     let at_r = [36, 48, 56, 60, 66, 77, 88, 99, 110];
@@ -149,9 +150,9 @@ fn every_pair_of_lane_counts() {
     }
 }
 
-/// Ten lanes of 100 to 1000, rising: normal 11 * 5500 * 69 = 4174500. HO under 1000; beside
-/// it 20 * 900 + 18 * 800 + 16 * 700 + 14 * 600 + 12 * 500 + 11 * (400 + 300 + 200 + 100) =
-/// 69000, times 69 = 4761000, and 2340000.
+/// Ten lanes of 100 to 1000, rising: normal 11 * 5500 * 69 = 4174500. HO under 1000;
+/// beside it 20 * 900 + 18 * 800 + 16 * 700 + 14 * 600 + 12 * 500 + 11 * (400 + 300 +
+/// 200 + 100) = 69000, times 69 = 4761000, and 2340000.
 #[test]
 fn the_sixth_additional_lane_and_later_ones_take_11() {
     let rising = [100, 200, 300, 400, 500, 600, 700, 800, 900, 1000];
@@ -164,10 +165,11 @@ fn the_sixth_additional_lane_and_later_ones_take_11() {
     }
 }
 
-/// Six lanes, 300, 900 and 500 on one side, 800, 400 and 700 on the other. All at 11 give
-/// 39600, and so do all but the least at 12; without 400, too, it is 14 * 2900 = 40600, and 16
-/// * 2400 is less. So normal is 40600 * 69 = 2801400. Overload: 900 * 20 * 117 = 2106000, and
-/// (20 * 800 + 18 * 700 + 16 * 500 + 14 * 400 + 12 * 300) * 69 = 3160200.
+/// Six lanes, 300, 900 and 500 on one side, 800, 400 and 700 on the other. All at 11
+/// give 39600, and so do all but the least at 12; without 400, too, it is 14 * 2900 =
+/// 40600, and 16 * 2400 is less. So normal is 40600 * 69 = 2801400. Overload: 900 * 20 *
+/// 117 = 2106000, and (20 * 800 + 18 * 700 + 16 * 500 + 14 * 400 + 12 * 300) * 69 =
+/// 3160200.
 #[test]
 fn six_lanes_of_which_normal_loads_four() {
     let account = account(&lanes_job(&[300, 900, 500], &[800, 400, 700]));
@@ -178,8 +180,9 @@ fn six_lanes_of_which_normal_loads_four() {
     assert_eq!(shown, [12, HO, 16, 20, 14, 18]);
 }
 
-/// Lanes of 1000 and 950 beside ones of 30 and 20: normal 18 * 1950 * 69 = 2421900 on one side
-/// alone, as 16 * 1980 is less; overload 2340000 + (20 * 950 + 18 * 30 + 16 * 20) * 69.
+/// Lanes of 1000 and 950 beside ones of 30 and 20: normal 18 * 1950 * 69 = 2421900 on
+/// one side alone, as 16 * 1980 is less; overload 2340000 + (20 * 950 + 18 * 30 + 16 *
+/// 20) * 69.
 #[test]
 fn normal_loads_one_side_alone() {
     for (first, second, set, shown) in [
@@ -195,9 +198,10 @@ fn normal_loads_one_side_alone() {
     }
 }
 
-/// 1000 to the left of the median, -1000 to its right. The one raises where the other lowers:
-/// normal 18 * (18400 + 13800) * 1000 * 3 / 800 = 2173500; overload (20 * 31200 + 20 * 13800)
-/// * 1000 * 3 / 800 = 3375000 with HO where it raises, so on a side of each question's own.
+/// 1000 to the left of the median, -1000 to its right. The one raises where the other
+/// lowers: normal 18 * (18400 + 13800) * 1000 * 3 / 800 = 2173500; overload (20 * 31200 +
+/// 20 * 13800) * 1000 * 3 / 800 = 3375000 with HO where it raises, so on a side of
+/// each question's own.
 #[test]
 fn each_question_has_its_own_side() {
     let account = account(&lanes_job(&[1000], &[-1000]));
@@ -211,8 +215,8 @@ fn each_question_has_its_own_side() {
     assert_eq!(entries(&account.overload_least, 2), [2, 3]);
 }
 
-/// One lane on each side, both under 500: 18 * 1000 * 69 / 1000 = 1242000 in normal, and HO in
-/// either gives 1170000 + 20 * 500 * 69 = 1860000; the left one is shown.
+/// One lane on each side, both under 500: 18 * 1000 * 69 / 1000 = 1242000 in normal,
+/// and HO in either gives 1170000 + 20 * 500 * 69 = 1860000; the left one is shown.
 #[test]
 fn lanes_that_tie_across_the_median() {
     let account = account(&lanes_job(&[500], &[500]));
@@ -223,13 +227,15 @@ fn lanes_that_tie_across_the_median() {
     assert_eq!(marked_factors(&account.overload_greatest, 2), [HO, 20]);
 }
 
-/// The first side has two lanes of 350.5 cm, with an ordinate of 950 - 31 x / 37 at x cm, so
-/// its best centres are the lanes' left limits, 150 cm and 500.5: 30500/37 and 39269/74. The
-/// second has one lane, centres 150 to 287 cm, and of the ordinates there, every 37 cm 131,
-/// 464, 797, 129 and 462 from 148 cm on, the best is at 222 cm. The three come to 159247/74.
+/// The first side has two lanes of 350.5 cm, with an ordinate of 950 - 31 x / 37 at x
+/// cm, so its best centres are the lanes' left limits, 150 cm and 500.5: 30500/37 and
+/// 39269/74. The second has one lane, centres 150 to 287 cm, and of the ordinates
+/// there, every 37 cm 131, 464, 797, 129 and 462 from 148 cm on, the best is at 222 cm.
+/// The three come to 159247/74.
 ///
-/// Normal: 16 * 69 * 159247/74 = 2375793.08. Overload, HO in lane 1: 20 * 117 * 30500/37 + 69 *
-/// (20 * 797 + 18 * 39269/74) = 1928918.92 + 1099860 + 659082.41 = 3687861.32.
+/// Normal: 16 * 69 * 159247/74 = 2375793.08. Overload, HO in lane 1: 20 * 117 *
+/// 30500/37 + 69 * (20 * 797 + 18 * 39269/74) = 1928918.92 + 1099860 + 659082.41 =
+/// 3687861.32.
 #[test]
 fn centres_in_n_ths_of_their_own_side() {
     let account = account(&sloped_job(701, 437));
@@ -242,11 +248,11 @@ fn centres_in_n_ths_of_their_own_side() {
     assert_eq!(marked_factors(&account.overload_greatest, 3), [HO, 18, 20]);
 }
 
-/// The same the other way round: the one lane slopes, so its best centre is 150 cm, 30500/37;
-/// the second side's two lanes have centres 150 to 200.5 and 500.5 to 551 cm. The saw is 464
-/// at 185 cm and 797 at 222, so at 200.5, a right limit, it is 464 + 333 * 15.5/37 = 44659/74.
-/// It is 4662 - 4 * 1001 - 200 = 458 at 518 cm, number 14, and 791 at 555 cm, so at 551 cm it
-/// is 458 + 333 * 33/37 = 27935/37.
+/// The same the other way round: the one lane slopes, so its best centre is 150 cm,
+/// 30500/37; the second side's two lanes have centres 150 to 200.5 and 500.5 to 551 cm.
+/// The saw is 464 at 185 cm and 797 at 222, so at 200.5, a right limit, it is 464 + 333 *
+/// 15.5/37 = 44659/74. It is 4662 - 4 * 1001 - 200 = 458 at 518 cm, number 14, and
+/// 791 at 555 cm, so at 551 cm it is 458 + 333 * 33/37 = 27935/37.
 #[test]
 fn the_same_sides_exchanged() {
     let account = account(&sloped_job(437, 701));
@@ -256,10 +262,11 @@ fn the_same_sides_exchanged() {
     assert_eq!(centres(&account.normal_greatest, 3), [150, 401, 1102]);
 }
 
-/// The line is 5 along 20 m, then falls from 0 to -10 along 5 m: raising HN 14000 + 1600 * 10 =
-/// 30000, HO 46000; lowering HN -3500 - 16000 = -19500, HO -35500. Under 700 HN gives 21e6,
-/// raising, under -1000 19.5e6, lowering; but HO 32.2e6 and 35.5e6. So HO is under -1000, on
-/// whichever side that is: 20 * (35.5e6 + 21e6) * 3 / 800 = 4237500.
+/// The line is 5 along 20 m, then falls from 0 to -10 along 5 m: raising HN 14000 +
+/// 1600 * 10 = 30000, HO 46000; lowering HN -3500 - 16000 = -19500, HO -35500. Under
+/// 700 HN gives 21e6, raising, under -1000 19.5e6, lowering; but HO 32.2e6 and 35.5e6.
+/// So HO is under -1000, on whichever side that is: 20 * (35.5e6 + 21e6) * 3 / 800 =
+/// 4237500.
 #[test]
 fn ho_on_either_side() {
     for (first, second, shown) in [([700], [-1000], [20, HO]), ([-1000], [700], [HO, 20])] {
@@ -269,8 +276,9 @@ fn ho_on_either_side() {
     }
 }
 
-/// The ten rising lanes with spans of 12.2 m for greatest and 200 m for least, whose factors
-/// are 1299 and 1064, and the other way round: each question has its own on both sides.
+/// The ten rising lanes with spans of 12.2 m for greatest and 200 m for least, whose
+/// factors are 1299 and 1064, and the other way round: each question has its own on
+/// both sides.
 #[test]
 fn spans_by_sign_on_both_sides() {
     let rising = [100, 200, 300, 400, 500, 600, 700, 800, 900, 1000];
@@ -284,10 +292,11 @@ fn spans_by_sign_on_both_sides() {
     assert_eq!(values(&long_and_short), due);
 }
 
-/// 7 * 1000 * 1000 = 7e6 of uniform load, the pair 1000: HN 8.6e6, HO 1.02e7. Times 1000 * 1300
-/// * 3 / 800000 = 4.875, normal is 110 * 8.6e6 * 4.875 = 4611750000; overload 20 * 1.02e7 + 124 *
-/// 8.6e6 = 1270400000, times 4.875 = 6193200000. With sides of two signs, each question has
-/// one: 60 * 8.6e6 * 4.875 = 2515500000 and (20 * 1.02e7 + 68 * 8.6e6) * 4.875 = 3845400000.
+/// 7 * 1000 * 1000 = 7e6 of uniform load, the pair 1000: HN 8.6e6, HO 1.02e7. Times
+/// 1000 * 1300 * 3 / 800000 = 4.875, normal is 110 * 8.6e6 * 4.875 = 4611750000;
+/// overload 20 * 1.02e7 + 124 * 8.6e6 = 1270400000, times 4.875 = 6193200000. With
+/// sides of two signs, each question has one: 60 * 8.6e6 * 4.875 = 2515500000 and (20 *
+/// 1.02e7 + 68 * 8.6e6) * 4.875 = 3845400000.
 #[test]
 fn the_largest_sums() {
     let (normal, overload) = (4_611_750_000, 6_193_200_000);
@@ -306,8 +315,8 @@ fn the_largest_sums() {
     }
 }
 
-/// A piece at 500 and one at -6: raising HN 7 * 50 * 1000 + 1600 * 500 = 1150000, times 16 *
-/// (310 + 420 + 530) * 3 / 800 = 86940000.
+/// A piece at 500 and one at -6: raising HN 7 * 50 * 1000 + 1600 * 500 = 1150000, times
+/// 16 * (310 + 420 + 530) * 3 / 800 = 86940000.
 #[test]
 fn ordinates_of_500() {
     let mut job = lanes_job(&[310], &[420, 530]);

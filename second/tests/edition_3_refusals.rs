@@ -1,6 +1,6 @@
-//! 02 "Two carriageways": what the yard hears back about a job of edition 3. The places are
-//! counted by hand from the words of `SOUND`, never taken from the code. That jobs with one
-//! carriageway keep their limits of 5000 is here, too.
+//! 02 "Two carriageways": what the yard hears back about a job of edition 3. The places
+//! are counted by hand from the words of `SOUND`, never taken from the code. That jobs
+//! with one carriageway keep their limits of 5000 is here, too.
 
 mod common;
 
@@ -45,8 +45,8 @@ fn refusal_1_below_thirteen_words() {
     refused(&bytes_of(&SOUND)[..52], 2, (3, 49), "the header alone");
 }
 
-/// Ten, eleven and twelve words are headers of other editions, not of this one; a fault of
-/// the header is not looked at in fewer words.
+/// Ten, eleven and twelve words are headers of other editions, not of this one; a fault
+/// of the header is not looked at in fewer words.
 #[test]
 fn refusal_1_for_headers_of_other_lengths() {
     for words in [10, 11, 12] {
@@ -69,8 +69,8 @@ fn refusal_1_for_uneven_bytes_and_other_editions() {
     }
 }
 
-/// As edition 1 it has 49 words where 10 + 4 + 7 + 2 + 8 + 6 are due, as edition 2 where 40
-/// are; as edition 4 it has one effect where eleven are due.
+/// As edition 1 it has 49 words where 10 + 4 + 7 + 2 + 8 + 6 are due, as edition 2
+/// where 40 are; as edition 4 it has one effect where eleven are due.
 #[test]
 fn word_0_chooses_the_limits() {
     refused_with(&[(0, 1)], (3, 37));

@@ -1,4 +1,5 @@
-//! Whether the placements of an example are the only ones as good, but for the pairs' sides.
+//! Whether the placements of an example are the only ones as good, but for the pairs'
+//! sides.
 
 use second::job::Job;
 use second::lanes::{breakpoint_centres, lanes_of_job, transverse_ordinate};
@@ -105,8 +106,8 @@ fn sums(job: &Job, roles: &[Role]) -> Vec<i128> {
 }
 
 /// Of every lane set, HO lane, assignment, centre and direction one is best for each
-/// value, given in twentieths times the common denominator. Between breakpoints no ordinate
-/// is level, so no centre there is as good.
+/// value, given in twentieths times the common denominator. Between breakpoints no
+/// ordinate is level, so no centre there is as good.
 #[track_caller]
 pub fn no_other_placement_is_as_good(job: &Job, due: [(Live, [i128; 2]); 2]) {
     let lanes = lanes_of_job(job);
