@@ -1,6 +1,6 @@
-//! 01 "Dynamic factor, rounding, rows", 02 "Farm bridges" and "Additional overload
-//! lanes": the account, as plain numbers, so that an account of any origin can be
-//! held beside it.
+//! 01 "Dynamic factor, rounding, rows", 02 "Farm bridges", "Additional overload lanes"
+//! and "Two carriageways": the account, as plain numbers, so that an account of any
+//! origin can be held beside it.
 
 use crate::lanes::MOST_LANES;
 use crate::loads::{Direction, Element, Live, Question, Side};
@@ -25,15 +25,19 @@ pub struct Account {
     pub lowering: Stand,
     pub service: State,
     pub ultimate: State,
+    /// Lanes of the first carriageway and of the second, 0 where there is none.
+    pub first_lanes: u32,
+    pub second_lanes: u32,
 }
 
 /// A traffic value in N·U and the placement that gives it.
 #[derive(Debug, Clone, Copy, PartialEq, Eq, Default)]
 pub struct Traffic {
     pub value: i64,
-    /// A bit a lane, the leftmost lane the lowest.
+    /// A bit a lane, the leftmost lane the lowest, the second carriageway's after the
+    /// first's.
     pub set: u32,
-    /// Leftmost first; lanes past the last are unloaded.
+    /// In the same order; lanes past the last are unloaded.
     pub lanes: [Lane; MOST_LANES],
 }
 
@@ -42,7 +46,8 @@ pub struct Traffic {
 pub struct Lane {
     /// 0 unloaded, 1 HN raising, 2 HN lowering, 3 HO raising, 4 HO lowering.
     pub entry: u32,
-    /// In n-ths of a cm from the left kerb; 0 for an unloaded lane.
+    /// In n-ths of a cm from the left kerb, both the lane's own carriageway's; 0 for an
+    /// unloaded lane.
     pub centre: i64,
     /// In twentieths, the lane's own where it is an additional one of overload; else 0.
     pub factor: i64,

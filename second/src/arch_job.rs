@@ -32,6 +32,7 @@ pub fn arch_job() -> Job {
         further_header: vec![0, 0],
         pieces: rising.chain(falling).collect(),
         transverse: (0..=18).map(|number| 950 - 50 * number).collect(),
+        second_transverse: vec![],
         effects: vec![
             Effect::new(1_234_567_890_123, ALWAYS_PRESENT),
             Effect::new(-1_232_098_755_432, ALWAYS_PRESENT),

@@ -1,13 +1,14 @@
-//! 01 "Arrangements, for demand 3", 02 "Farm bridges", "Span by sign" and "Additional
-//! overload lanes": arrangements in k-ths, judged and evaluated in exact fractions.
-//! Nothing here asks for the best of anything. With the code that does, it shares only
-//! the lane count, the loads and factors of loads.rs, a job's dynamic factors, what
-//! edition.rs says of an edition and the patch byte that a direction loads.
+//! 01 "Arrangements, for demand 3", 02 "Farm bridges", "Span by sign", "Additional
+//! overload lanes" and "Two carriageways": arrangements in k-ths, judged and evaluated
+//! in exact fractions. Nothing here asks for the best of anything. With the code that
+//! does, it shares only the lane counts, the loads and factors of loads.rs, a job's
+//! dynamic factors, what edition.rs says of an edition and the patch byte that a
+//! direction loads.
 
 use crate::account::{entry_of, side_of, Account, Traffic, UNLOADED};
 use crate::fraction::Fraction;
 use crate::job::{Job, Piece};
-use crate::lanes::{lane_count, EDGE_DISTANCE, MOST_LANES};
+use crate::lanes::{lane_counts, EDGE_DISTANCE, MOST_LANES};
 use crate::line::loaded_byte;
 use crate::loads::{
     additional_factors, reduction, Element, Live, Question, Side, AXLE_DISTANCE,
@@ -23,7 +24,7 @@ const ADDITIONAL: (Live, Element) = (Live::Overload, Element::Hn);
 pub struct Arrangement {
     /// A whole number from 1 up.
     pub k: i128,
-    /// Leftmost lane first.
+    /// Leftmost lane first, the second carriageway's after the first's.
     pub lanes: [Option<LoadedLane>; MOST_LANES],
 }
 
@@ -37,7 +38,7 @@ pub struct LoadedLane {
     /// The left axle, in k-ths of a piece from the line's left end.
     pub left_axle: i128,
     pub side: Side,
-    /// In k-ths of a cm from the left kerb.
+    /// In k-ths of a cm from the left kerb of the lane's own carriageway.
     pub centre: i128,
     /// In twentieths, the lane's own where it is an additional one of overload; else 0.
     pub factor: i64,
@@ -64,10 +65,10 @@ impl Arrangement {
         }
         for (lane, loaded) in self.loaded_lanes() {
             let rule_broken = |rule: &str| Err(format!("lane {}: {rule}", lane + 1));
-            if lane >= lane_count(job.width) {
+            let Some(own) = OwnCarriageway::of(job, lane) else {
                 return rule_broken("is past the last lane");
-            }
-            let (from, to) = centre_limits_in_cm(job, lane);
+            };
+            let (from, to) = own.centre_limits_in_cm();
             let centre = Fraction::new(loaded.centre, self.k);
             if centre.is_below(from) || to.is_below(centre) {
                 return rule_broken("its centre is outside the lane's limits");
@@ -143,14 +144,14 @@ impl Arrangement {
             .loaded_lanes()
             .fold(0, |set, (lane, _)| set | 1 << lane);
         let mut in_twentieths = Fraction::ZERO;
-        for (_, loaded) in self.loaded_lanes() {
+        for (lane, loaded) in self.loaded_lanes() {
             let twentieths = match (live, loaded.element) {
                 (Live::Normal, _) => reduction(loaded_set),
                 (Live::Overload, Element::Ho) => OVERLOAD_ELEMENT_TWENTIETHS,
                 ADDITIONAL => loaded.factor,
             };
             let effect = loaded.longitudinal_effect(job, self.k)
-                * transverse_ordinate(job, loaded.centre, self.k);
+                * transverse_ordinate(job, lane, loaded.centre, self.k);
             in_twentieths = in_twentieths + effect * Fraction::whole(twentieths.into());
         }
         let x = in_twentieths * Fraction::whole(job.dynamic_factor(question).into());
@@ -214,12 +215,56 @@ pub(crate) fn ordinate_at(line: &[Piece], place: i128, side: Side, k: i128) -> i
     })
 }
 
-/// The transverse ordinate, in thousandths, this many k-ths of a cm from the
-/// left kerb.
-pub(crate) fn transverse_ordinate(job: &Job, centre: i128, k: i128) -> Fraction {
+/// The carriageway of a lane, with the lane's number there, from 0 on.
+pub(crate) struct OwnCarriageway<'a> {
+    /// In cm.
+    width: i128,
+    pub(crate) lanes: usize,
+    transverse: &'a [i64],
+    number: usize,
+}
+
+impl OwnCarriageway<'_> {
+    /// That of a lane of the job; none past the last.
+    pub(crate) fn of(job: &Job, lane: usize) -> Option<OwnCarriageway<'_>> {
+        let [first, second] = lane_counts(job);
+        if lane < first {
+            Some(OwnCarriageway {
+                width: job.width.into(),
+                lanes: first,
+                transverse: &job.transverse,
+                number: lane,
+            })
+        } else if lane < first + second {
+            Some(OwnCarriageway {
+                width: job.second_width()?.into(),
+                lanes: second,
+                transverse: &job.second_transverse,
+                number: lane - first,
+            })
+        } else {
+            None
+        }
+    }
+
+    /// Lanes are W/n wide, and the centre stays 150 cm from the lane's edges.
+    pub(crate) fn centre_limits_in_cm(&self) -> (Fraction, Fraction) {
+        let edge = |number: usize| Fraction::new(number as i128 * self.width, self.lanes as i128);
+        let distance = i128::from(EDGE_DISTANCE);
+        (
+            edge(self.number) + Fraction::whole(distance),
+            edge(self.number + 1) + Fraction::whole(-distance),
+        )
+    }
+}
+
+/// The transverse ordinate of a lane's carriageway, in thousandths, this many k-ths of
+/// a cm from its left kerb.
+pub(crate) fn transverse_ordinate(job: &Job, lane: usize, centre: i128, k: i128) -> Fraction {
+    let own = OwnCarriageway::of(job, lane).expect("a lane of the job");
     let spacing = i128::from(job.spacing) * k;
     let (number, beyond) = ((centre / spacing) as usize, centre % spacing);
-    let ordinate = |number: usize| i128::from(job.transverse[number]);
+    let ordinate = |number: usize| i128::from(own.transverse[number]);
     if beyond == 0 {
         return Fraction::whole(ordinate(number));
     }
@@ -227,27 +272,20 @@ pub(crate) fn transverse_ordinate(job: &Job, centre: i128, k: i128) -> Fraction 
     Fraction::new(weighed, spacing)
 }
 
-/// Lanes are W/n wide, and the centre stays 150 cm from the lane's edges.
-fn centre_limits_in_cm(job: &Job, lane: usize) -> (Fraction, Fraction) {
-    let n = lane_count(job.width) as i128;
-    let edge = |number: usize| Fraction::new(number as i128 * i128::from(job.width), n);
-    let distance = i128::from(EDGE_DISTANCE);
-    (
-        edge(lane) + Fraction::whole(distance),
-        edge(lane + 1) + Fraction::whole(-distance),
-    )
-}
-
 /// "The reported placement of a traffic value is the arrangement with its lane
-/// set, kinds and centres", and the factors shown; k is the lane count, since centres
-/// are reported in n-ths of a cm. `patch` holds the patch byte of each piece.
+/// set, kinds and centres", and the factors shown. Centres are reported in n-ths of a cm
+/// for their own carriageway, so k is the product of the lane counts. `patch` holds the
+/// patch byte of each piece.
 pub fn reported_placement(
     job: &Job,
     patch: &[u8],
     account: &Account,
     traffic: &Traffic,
 ) -> Result<Arrangement, String> {
-    let k = lane_count(job.width) as i128;
+    let k: i128 = lane_counts(job)
+        .iter()
+        .map(|&lanes| lanes.max(1) as i128)
+        .product();
     let mut arrangement = Arrangement::empty(k);
     if traffic.set >> MOST_LANES != 0 {
         return Err(format!("lane set {:#b} names no lane", traffic.set));
@@ -270,6 +308,9 @@ pub fn reported_placement(
         let Some((element, direction)) = entry_of(reported.entry) else {
             return rule_broken("its entry's number stands for nothing");
         };
+        let Some(own) = OwnCarriageway::of(job, lane) else {
+            return rule_broken("is past the last lane");
+        };
         let stand = account.stand(direction);
         let Some(side) = side_of(stand.side) else {
             return rule_broken("its side's number stands for nothing");
@@ -279,7 +320,7 @@ pub fn reported_placement(
             loaded: loaded_pieces(patch, loaded_byte(direction), k),
             left_axle: i128::from(stand.station) * k,
             side,
-            centre: reported.centre.into(),
+            centre: i128::from(reported.centre) * (k / own.lanes as i128),
             factor: reported.factor,
         });
     }

@@ -52,7 +52,8 @@ pub fn check(
         }
     }
     check_state(&job, &answer.account, &expected.account, SERVICE)?;
-    check_state(&job, &answer.account, &expected.account, ULTIMATE)
+    check_state(&job, &answer.account, &expected.account, ULTIMATE)?;
+    check_lane_counts(&answer.account, &expected.account)
 }
 
 pub(crate) fn same<T: PartialEq + std::fmt::Display>(
@@ -139,6 +140,16 @@ fn check_traffic(
         &format!("{name}'s placement's effect"),
         given,
         traffic.value.into(),
+    )
+}
+
+/// The lanes of each carriageway are those of its width.
+fn check_lane_counts(account: &Account, expected: &Account) -> Result<(), String> {
+    same("the lane count", account.first_lanes, expected.first_lanes)?;
+    same(
+        "the second carriageway's lane count",
+        account.second_lanes,
+        expected.second_lanes,
     )
 }
 

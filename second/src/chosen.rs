@@ -2,10 +2,12 @@
 //! write its builder, with the reason above it, and put it at the end of
 //! BUILDERS; or, where words of Job A changed will do, put them into PAST_LIMITS.
 //! Those of edition 4 are in chosen/farm.rs, those of edition 2 in
-//! chosen/edition_2.rs, those with spans by sign in chosen/spans.rs. Those of
-//! additional overload lanes, in chosen/overload_lanes.rs, go with no one stream.
+//! chosen/edition_2.rs, those with spans by sign in chosen/spans.rs, those of edition 3
+//! in chosen/edition_3.rs. Those of additional overload lanes, in
+//! chosen/overload_lanes.rs, go with no one stream.
 
 mod edition_2;
+pub mod edition_3;
 mod farm;
 pub mod overload_lanes;
 mod spans;
@@ -102,10 +104,16 @@ pub const PAST_LIMITS: [&[Change]; 51] = [
     &[(RECORD + 2, i32::MAX)],
 ];
 
-/// All chosen cases: those of the streams, then those that go with none.
+/// All chosen cases.
 pub fn all() -> impl Iterator<Item = Case> {
-    let of_streams = Stream::ALL.into_iter().flat_map(cases);
-    of_streams.chain(overload_lanes::cases())
+    Stream::ALL.into_iter().flat_map(stored_after)
+}
+
+/// The chosen cases that are stored after a stream's generated ones: those that go with
+/// it, and after the last of edition 2 those of additional overload lanes.
+pub fn stored_after(stream: Stream) -> impl Iterator<Item = Case> {
+    let of_lanes = (stream == Stream::Spans).then(overload_lanes::cases);
+    cases(stream).chain(of_lanes.into_iter().flatten())
 }
 
 /// The chosen cases that go with a stream, in the order in which they are stored.
@@ -120,6 +128,7 @@ pub fn cases(stream: Stream) -> impl Iterator<Item = Case> {
         Stream::Two => edition_2::cases(),
         Stream::Four => farm::cases(),
         Stream::Spans => spans::cases(),
+        Stream::Three => edition_3::cases(),
     };
     cases.into_iter()
 }
@@ -247,6 +256,7 @@ fn bare_job(edition: Edition, further_header: Vec<i64>) -> Job {
         further_header,
         pieces: vec![level_piece(8)],
         transverse: vec![100, 250, 333, 500, 21, -70, -900],
+        second_transverse: vec![],
         effects: vec![],
         rows: vec![],
         records: vec![],

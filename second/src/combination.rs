@@ -42,7 +42,7 @@ impl Job {
     /// The job's combinations, by row.
     pub fn combinations(&self) -> Vec<Combination> {
         match self.edition {
-            Edition::One | Edition::Two => (1..)
+            Edition::One | Edition::Two | Edition::Three => (1..)
                 .zip(&self.rows)
                 .map(|(number, row)| self.combination_of(number, row))
                 .collect(),

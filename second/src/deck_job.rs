@@ -39,6 +39,7 @@ pub fn deck_job() -> Job {
         further_header: vec![],
         pieces: spans.iter().flat_map(|span| pieces(span)).collect(),
         transverse: [LANES.as_flattened(), &[RIGHT_KERB]].concat(),
+        second_transverse: vec![],
         // In kN·cm; the line's area is 2.5 m * (2381 - 619) cm = 4405 m·cm.
         effects: vec![
             Effect::new(198_225, ALWAYS_PRESENT), // dead load, 45 kN/m

@@ -30,6 +30,7 @@ pub fn farm_job() -> Job {
         further_header: vec![3],
         pieces: rising.chain(falling).collect(),
         transverse: (0..=8).map(|number| 800 - 75 * number).collect(),
+        second_transverse: vec![],
         effects: farm::effects(effects),
         rows: vec![],
         records: vec![],

@@ -6,6 +6,7 @@ mod damage;
 mod draws;
 mod edition_1;
 mod edition_2;
+mod edition_3;
 mod edition_4;
 mod header;
 mod line;
@@ -55,5 +56,6 @@ pub fn sound_job(rng: &mut Rng, stream: Stream) -> Job {
         Stream::Two => edition_2::sound_job(rng),
         Stream::Four => edition_4::sound_job(rng),
         Stream::Spans => spans::sound_job(rng),
+        Stream::Three => edition_3::sound_job(rng),
     }
 }

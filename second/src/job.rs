@@ -1,5 +1,5 @@
-//! 01 "The job's words", 02 "Farm bridges", "Effects past a word" and "Span by
-//! sign": a job decoded into its fields, and encoded again.
+//! 01 "The job's words", 02 "Farm bridges", "Effects past a word", "Span by sign" and
+//! "Two carriageways": a job decoded into its fields, and encoded again.
 
 use crate::edition::Edition;
 use crate::line;
@@ -17,7 +17,7 @@ pub struct Piece {
 /// A finished effect.
 #[derive(Debug, Clone, Copy, PartialEq, Eq)]
 pub struct Effect {
-    /// In the edition's unit: kN·U, but N·U in edition 2.
+    /// In the edition's unit: kN·U, but N·U in editions 2 and 3.
     pub value: i64,
     /// 1 always present, 2 may be left out.
     pub mark: i64,
@@ -89,17 +89,21 @@ pub struct Job {
     pub piece_length: i64,
     /// g, in cm.
     pub spacing: i64,
-    /// W, in cm.
+    /// W, in cm; with two carriageways the first's.
     pub width: i64,
     pub dynamic_kind: i64,
     /// With spans by sign, the one for greatest.
     pub dynamic_value: i64,
     /// The header's words past word 9, which edition 1 has none of: a farm job's
-    /// barriers; edition 2's span for least, or 0, and a 0.
+    /// barriers; in editions 2 and 3 the span for least, or 0, and a 0; in edition 3
+    /// then the second width.
     pub further_header: Vec<i64>,
     pub pieces: Vec<Piece>,
     /// Transverse ordinates in thousandths, the first at the left kerb.
     pub transverse: Vec<i64>,
+    /// Those of the second carriageway, from its own left kerb; empty where there is
+    /// none.
+    pub second_transverse: Vec<i64>,
     pub effects: Vec<Effect>,
     /// Empty, as the records are, where the edition has its rows built in.
     pub rows: Vec<Row>,
@@ -126,7 +130,7 @@ impl Effect {
     fn words(&self, edition: Edition) -> Vec<i64> {
         let mut words = match edition {
             Edition::One | Edition::Four => vec![self.value],
-            Edition::Two => words::halves(self.value).map(i64::from).to_vec(),
+            Edition::Two | Edition::Three => words::halves(self.value).map(i64::from).to_vec(),
         };
         words.push(self.mark);
         words
@@ -151,6 +155,7 @@ impl Job {
             further_header: numbers(&words[sections::RECORDS + 1..edition.header_words()]),
             pieces: line::pieces_of(&words[sections.line]),
             transverse: numbers(&words[sections.transverse]),
+            second_transverse: numbers(&words[sections.second_transverse]),
             effects: words[sections.effects]
                 .chunks_exact(edition.words_per_effect())
                 .map(Effect::of_words)
@@ -192,6 +197,7 @@ impl Job {
         words.extend(&self.further_header);
         words.extend(line::ordinates_of(&self.pieces));
         words.extend(&self.transverse);
+        words.extend(&self.second_transverse);
         for effect in &self.effects {
             words.extend(effect.words(self.edition));
         }
@@ -212,7 +218,22 @@ impl Job {
         words::bytes_of(&self.words())
     }
 
-    /// The job, of edition 2, with these spans by sign.
+    /// The width in cm of the second carriageway, where the job has one.
+    pub fn second_width(&self) -> Option<i64> {
+        let place = sections::SECOND_WIDTH - (sections::RECORDS + 1);
+        let has_second = self.edition.has_second_carriageway();
+        has_second.then(|| self.further_header[place])
+    }
+
+    /// The job, of edition 2, as one of edition 3 with this second carriageway.
+    pub fn with_second_carriageway(mut self, width: i64, transverse: Vec<i64>) -> Job {
+        self.edition = Edition::Three;
+        self.further_header.push(width);
+        self.second_transverse = transverse;
+        self
+    }
+
+    /// The job, of edition 2 or 3, with these spans by sign.
     pub fn with_spans(mut self, greatest: i64, least: i64) -> Job {
         (self.dynamic_kind, self.dynamic_value) = (SPANS_BY_SIGN, greatest);
         self.further_header[0] = least;

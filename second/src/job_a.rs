@@ -25,6 +25,7 @@ pub fn job_a() -> Job {
         further_header: vec![],
         pieces: rising.chain(falling).collect(),
         transverse: (0..=18).map(|number| 900 - 50 * number).collect(),
+        second_transverse: vec![],
         effects: vec![Effect {
             value: 80_000,
             mark: ALWAYS_PRESENT,

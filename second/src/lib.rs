@@ -22,6 +22,7 @@ pub mod job_a;
 pub mod lanes;
 pub mod line;
 pub mod loads;
+pub mod motorway_job;
 pub mod refusals;
 pub mod report;
 pub mod rng;

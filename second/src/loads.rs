@@ -1,6 +1,6 @@
 //! 01 "Longitudinal effect", "Lanes" and "Dynamic factor, rounding, rows", 02
-//! "Span by sign" and "Additional overload lanes": the loads and factors that don't
-//! depend on the lines, and the two questions.
+//! "Span by sign", "Additional overload lanes" and "Two carriageways": the loads and
+//! factors that don't depend on the lines, and the two questions.
 
 /// The element a loaded lane carries.
 #[derive(Debug, Clone, Copy, PartialEq, Eq)]
@@ -94,14 +94,15 @@ pub fn reduction(set: u32) -> i64 {
     tabulated_factor(set.count_ones())
 }
 
-/// The reduction factors of 3.2.4, in twentieths.
+/// The reduction factors of 3.2.4, in twentieths; six lanes or more take one.
 fn tabulated_factor(number: u32) -> i64 {
     match number {
         0 | 1 => 20,
         2 => 18,
         3 => 16,
         4 => 14,
-        _ => 12,
+        5 => 12,
+        _ => 11,
     }
 }
 

@@ -4,10 +4,11 @@
 
 use second::generator::{self, Stream};
 use second::job::Job;
-use second::lanes::lane_count;
 use second::train::page::{page, truck_line};
 use second::train::{self, Axle, TrainCase, REPORT_BYTES};
-use second::{arch_job, deck_job, farm_job, job_a, line, report, sampler, solve, store, words};
+use second::{
+    arch_job, deck_job, farm_job, job_a, line, motorway_job, report, sampler, solve, store, words,
+};
 use std::fs;
 use std::io::{self, Read, Write};
 use std::path::Path;
@@ -24,6 +25,8 @@ const USAGE: &str = "usage:
                                    standard output
   second deck-job                  write the bytes of the example with four lanes
                                    to standard output
+  second motorway-job              write the bytes of edition 3's example to
+                                   standard output
   second train H MODE LOAD@AT.. < LINE
                                    print the rating of a train on a line's
                                    section, or the refusal
@@ -31,14 +34,14 @@ const USAGE: &str = "usage:
                                    output; its H is 2
   second generate STREAM SEED COUNT DIR
                                    write COUNT cases of STREAM from SEED on into
-                                   DIR, as SEED.job and SEED.patch; STREAM is 1, 2
-                                   or 4, as its edition, or spans
+                                   DIR, as SEED.job and SEED.patch; STREAM is 1, 2,
+                                   3 or 4, as its edition, or spans
   second store DIR                 write the cases to store into DIR/jobs, and
                                    what is due for each into DIR/expected
 ";
 
 /// The most bytes of standard input that are read.
-const MOST_INPUT_BYTES: u64 = 16384;
+const MOST_INPUT_BYTES: u64 = 32768;
 
 /// The patch buffer the program lends: a byte for each of the most pieces.
 const PATCH_BYTES: usize = 1000;
@@ -85,6 +88,7 @@ fn run(arguments: &[&str]) -> Result<(), Failure> {
         ["farm-job"] => write_out(&farm_job::farm_job().bytes()),
         ["arch-job"] => write_out(&arch_job::arch_job().bytes()),
         ["deck-job"] => write_out(&deck_job::deck_job().bytes()),
+        ["motorway-job"] => write_out(&motorway_job::motorway_job().bytes()),
         ["train", h, mode, axles @ ..] => train(number(h)?, number(mode)?, axles),
         ["truck-line"] => write_out(&line::section_bytes(&truck_line())),
         ["generate", stream, seed, count, directory] => generate(
@@ -108,9 +112,7 @@ fn account() -> Result<(), Failure> {
     if answer.refusal != 0 {
         return write_out(report::report(&answer).as_bytes());
     }
-    let job = Job::decode(&words::words_of(&job));
-    let page = report::page(lane_count(job.width), &answer.account);
-    write_out(page.as_bytes())
+    write_out(report::page(&answer.account).as_bytes())
 }
 
 fn beat(seed: u64, tries: u32) -> Result<(), Failure> {

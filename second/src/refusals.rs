@@ -1,6 +1,6 @@
-//! 01 "What the yard hears back", 02 "Farm bridges", "Effects past a word" and
-//! "Span by sign": refusals 1 to 9, tested in rising number, and 11, tested
-//! straight after 2; each at its lowest place.
+//! 01 "What the yard hears back", 02 "Farm bridges", "Effects past a word", "Span by
+//! sign" and "Two carriageways": refusals 1 to 9, tested in rising number, and 11,
+//! tested straight after 2; each at its lowest place.
 
 use crate::edition::Edition;
 use crate::farm;
@@ -9,8 +9,8 @@ use crate::sections::{self, Sections, WORDS_PER_PIECE, WORDS_PER_RECORD, WORDS_P
 use crate::words::{self, WORD_BYTES};
 use std::ops::{Range, RangeInclusive};
 
-/// The most an ordinate of either line is away from 0.
-pub const MOST_IN_LINE: i32 = 5000;
+/// The most that a transverse ordinate is away from 0; edition.rs has that of a
+/// longitudinal one.
 pub const MOST_ACROSS: i32 = 1000;
 
 /// A refusal's number and word place.
@@ -33,7 +33,7 @@ fn test_all(job: &[u8], patch_bytes: usize) -> Result<(), Refusal> {
     test(11, width_outside_its_band(words, edition))?;
     let sections = Sections::called_for_by(words);
     test(3, wrong_word_count(words, &sections))?;
-    test(4, ordinate_of_a_job_outside(words, &sections))?;
+    test(4, ordinate_of_a_job_outside(words, &sections, edition))?;
     let crossing = piece_of_two_signs(&words[sections.line.clone()]);
     test(5, crossing.map(|within| sections.line.start + within))?;
     test(6, factor_word_outside(words, &sections, edition))?;
@@ -79,12 +79,15 @@ fn header_word_lawful(words: &[i32], place: usize, edition: Edition) -> bool {
         sections::PIECE_LENGTH => piece_length_lawful(word.into()),
         sections::PIECES => pieces_lawful(words[sections::PIECE_LENGTH].into(), word.into()),
         sections::SPACING => (10..=50).contains(&word),
-        sections::WIDTH => (300..=2079).contains(&word),
+        sections::WIDTH => WIDTHS.contains(&word),
         sections::DYNAMIC_KIND => edition.dynamic_kinds().contains(&word),
         sections::DYNAMIC_VALUE => dynamic_value_limits(dynamic_kind).contains(&word),
         _ => later_header_word_limits(place, edition, dynamic_kind).contains(&word),
     }
 }
+
+/// The limits of a carriageway's width, in cm.
+pub const WIDTHS: RangeInclusive<i32> = 300..=2079;
 
 /// The limits of a span, in dm.
 pub const SPANS: RangeInclusive<i32> = 1..=2000;
@@ -100,21 +103,22 @@ pub fn dynamic_value_limits(dynamic_kind: i64) -> RangeInclusive<i32> {
 }
 
 /// The limits of the header's words from the number of effects on, which differ
-/// by edition; those of edition 2's word 10 by the dynamic kind, too.
+/// by edition; those of word 10 in editions 2 and 3 by the dynamic kind, too.
 pub fn later_header_word_limits(
     place: usize,
     edition: Edition,
     dynamic_kind: i64,
 ) -> RangeInclusive<i32> {
     match (edition, place) {
-        (Edition::One | Edition::Two, sections::EFFECTS) => 0..=16,
-        (Edition::One | Edition::Two, sections::ROWS) => 1..=32,
-        (Edition::One, _) | (Edition::Two, sections::RECORDS) => 0..=512,
-        (Edition::Two, sections::SPAN_FOR_LEAST) if dynamic_kind == SPANS_BY_SIGN => SPANS,
-        (Edition::Two, _) => 0..=0,
         (Edition::Four, sections::EFFECTS) => 11..=11,
         (Edition::Four, sections::ROWS | sections::RECORDS) => 0..=0,
         (Edition::Four, _) => 1..=3,
+        (_, sections::EFFECTS) => 0..=16,
+        (_, sections::ROWS) => 1..=32,
+        (Edition::One, _) | (_, sections::RECORDS) => 0..=512,
+        (_, sections::SPAN_FOR_LEAST) if dynamic_kind == SPANS_BY_SIGN => SPANS,
+        (_, sections::SECOND_WIDTH) => WIDTHS,
+        (_, _) => 0..=0,
     }
 }
 
@@ -151,13 +155,18 @@ fn wrong_word_count(words: &[i32], sections: &Sections) -> Option<usize> {
 }
 
 /// 4: an ordinate of either line outside its limits.
-fn ordinate_of_a_job_outside(words: &[i32], sections: &Sections) -> Option<usize> {
+fn ordinate_of_a_job_outside(
+    words: &[i32],
+    sections: &Sections,
+    edition: Edition,
+) -> Option<usize> {
     let in_section = |section: &Range<usize>, most: i32| {
         let within = ordinate_outside(&words[section.clone()], most)?;
         Some(section.start + within)
     };
-    in_section(&sections.line, MOST_IN_LINE)
+    in_section(&sections.line, edition.most_in_line())
         .or_else(|| in_section(&sections.transverse, MOST_ACROSS))
+        .or_else(|| in_section(&sections.second_transverse, MOST_ACROSS))
 }
 
 /// The first word of a line's section further from 0 than this.
@@ -214,8 +223,10 @@ fn effect_word_lawful(words: &[i32], edition: Edition, within: usize) -> bool {
     let most = edition.most_effect();
     match (edition, within % each) {
         (Edition::One | Edition::Four, 0) => (-most..=most).contains(&words[0].into()),
-        (Edition::Two, 0) => (-most..=most).contains(&words::joined(words[0], words[1])),
-        (Edition::Two, 1) => true,
+        (Edition::Two | Edition::Three, 0) => {
+            (-most..=most).contains(&words::joined(words[0], words[1]))
+        }
+        (Edition::Two | Edition::Three, 1) => true,
         _ => marks(edition, within / each).contains(&words[0].into()),
     }
 }
@@ -223,7 +234,7 @@ fn effect_word_lawful(words: &[i32], edition: Edition, within: usize) -> bool {
 /// The marks that an effect, counted from 0, may carry.
 fn marks(edition: Edition, effect: usize) -> RangeInclusive<i64> {
     match edition {
-        Edition::One | Edition::Two => ALWAYS_PRESENT..=MAY_BE_LEFT_OUT,
+        Edition::One | Edition::Two | Edition::Three => ALWAYS_PRESENT..=MAY_BE_LEFT_OUT,
         Edition::Four => farm::mark(effect)..=farm::mark(effect),
     }
 }

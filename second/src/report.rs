@@ -40,14 +40,15 @@ fn state_line(name: &str, state: &State) -> String {
     )
 }
 
-/// The whole account of an accepted job with this many lanes, as the kernel's
-/// example host prints it.
-pub fn page(lanes: usize, account: &Account) -> String {
+/// The whole account of an accepted job, as the kernel's example host prints it.
+pub fn page(account: &Account) -> String {
+    let placement =
+        |name, traffic| placement_lines(name, account.first_lanes, account.second_lanes, traffic);
     [
-        placement_lines("normal greatest", lanes, &account.normal_greatest),
-        placement_lines("normal least", lanes, &account.normal_least),
-        placement_lines("overload greatest", lanes, &account.overload_greatest),
-        placement_lines("overload least", lanes, &account.overload_least),
+        placement("normal greatest", &account.normal_greatest),
+        placement("normal least", &account.normal_least),
+        placement("overload greatest", &account.overload_greatest),
+        placement("overload least", &account.overload_least),
         pair_line("raising", &account.raising),
         pair_line("lowering", &account.lowering),
         governing_lines("service", &account.service),
@@ -56,11 +57,17 @@ pub fn page(lanes: usize, account: &Account) -> String {
     .concat()
 }
 
-/// A traffic value, then its placement with a line for each loaded lane.
-fn placement_lines(name: &str, lanes: usize, traffic: &Traffic) -> String {
+/// A traffic value, then its placement with a line for each loaded lane. A centre is
+/// over the lanes of its own carriageway.
+fn placement_lines(name: &str, first: u32, second: u32, traffic: &Traffic) -> String {
     let mut lines = format!("{name} {} N.U\n", traffic.value);
+    let lanes = match second {
+        0 => format!("{first}"),
+        _ => format!("{first} + {second}"),
+    };
     lines += &format!("  lanes {lanes}, set {}\n", traffic.set);
     for (number, lane) in (1..).zip(&traffic.lanes) {
+        let n = if number <= first { first } else { second };
         let entry = [
             "unloaded",
             "HN raising",
@@ -72,7 +79,7 @@ fn placement_lines(name: &str, lanes: usize, traffic: &Traffic) -> String {
             let entry = entry[lane.entry as usize];
             let Lane { centre, factor, .. } = lane;
             lines +=
-                &format!("  lane {number}: {entry}, centre {centre}/{lanes} cm, factor {factor}\n");
+                &format!("  lane {number}: {entry}, centre {centre}/{n} cm, factor {factor}\n");
         }
     }
     lines

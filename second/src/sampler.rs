@@ -9,12 +9,12 @@
 
 use crate::account::Account;
 use crate::arrangement::{
-    loaded_pieces, ordinate_at, transverse_ordinate, Arrangement, LoadedLane,
+    loaded_pieces, ordinate_at, transverse_ordinate, Arrangement, LoadedLane, OwnCarriageway,
 };
 use crate::combination::{Combination, Variant};
 use crate::fraction::Fraction;
 use crate::job::{Job, MAY_BE_LEFT_OUT, SERVICE, ULTIMATE};
-use crate::lanes::{lane_count, EDGE_DISTANCE};
+use crate::lanes::lane_counts;
 use crate::loads::{additional_factors, Direction, Element, Live, Question, Side, AXLE_DISTANCE};
 use crate::rng::Rng;
 use std::ops::Range;
@@ -111,7 +111,7 @@ impl<'a> Sampler<'a> {
         };
         Sampler {
             job,
-            lanes: lane_count(job.width),
+            lanes: lane_counts(job).iter().sum(),
             raising_effects: effects_of(&raised, high_stands[0]),
             lowering_effects: effects_of(&lowered, low_stands[0]),
             raised,
@@ -237,7 +237,7 @@ impl<'a> Sampler<'a> {
         if aimed {
             let goes_to = |lane: usize| {
                 let (_, loaded) = elements.iter().find(|(at, _)| *at == lane).expect("drawn");
-                self.aimed_effect(loaded.element, loaded.centre, question, k)
+                self.aimed_effect(lane, loaded.element, loaded.centre, question, k)
                     .0
             };
             // Furthest first.
@@ -271,9 +271,11 @@ impl<'a> Sampler<'a> {
         arrangement
     }
 
-    /// With k a multiple of n every limit of a centre is a k-th of a cm.
+    /// With k a multiple of every carriageway's n every limit of a centre is a k-th of
+    /// a cm.
     fn draw_k(&self, rng: &mut Rng) -> i64 {
-        let n = self.lanes as i64;
+        let counts = lane_counts(self.job).into_iter();
+        let n: i64 = counts.map(|lanes| lanes.max(1) as i64).product();
         match rng.below(8) {
             0 | 1 => n,
             2 => n * rng.between(1, 12),
@@ -287,12 +289,13 @@ impl<'a> Sampler<'a> {
     /// The further of a raising and a lowering element at a centre.
     fn aimed_effect(
         &self,
+        lane: usize,
         element: Element,
         centre: i128,
         question: Question,
         k: i128,
     ) -> (Fraction, Direction) {
-        let ordinate = transverse_ordinate(self.job, centre, k);
+        let ordinate = transverse_ordinate(self.job, lane, centre, k);
         let kind = match element {
             Element::Hn => 0,
             Element::Ho => 1,
@@ -315,7 +318,7 @@ impl<'a> Sampler<'a> {
     fn draw_aimed(&self, lane: usize, element: Element, question: Question, k: i128) -> LoadedLane {
         let mut furthest: Option<(Fraction, Direction, i128)> = None;
         for centre in marked_centres(self.job, lane, k) {
-            let (effect, direction) = self.aimed_effect(element, centre, question, k);
+            let (effect, direction) = self.aimed_effect(lane, element, centre, question, k);
             let further = furthest.is_none_or(|(best, _, _)| match question {
                 Question::Greatest => best.is_below(effect),
                 Question::Least => effect.is_below(best),
@@ -445,11 +448,10 @@ fn good_stands(job: &Job, question: Question) -> Vec<(i128, Side)> {
 /// The centres open to a lane's element, in k-ths of a cm; the end is not
 /// among them.
 fn centre_limits(job: &Job, lane: usize, k: i128) -> Range<i128> {
-    let n = lane_count(job.width) as i128;
-    let (lane, width) = (lane as i128, i128::from(job.width));
-    let edge = i128::from(EDGE_DISTANCE) * n;
-    let (from, to) = (lane * width + edge, (lane + 1) * width - edge);
-    Question::Greatest.round(from * k, n)..Question::Least.round(to * k, n) + 1
+    let own = OwnCarriageway::of(job, lane).expect("a lane of the job");
+    let (from, to) = own.centre_limits_in_cm();
+    let k = Fraction::whole(k);
+    (from * k).round(Question::Greatest)..(to * k).round(Question::Least) + 1
 }
 
 /// The first and last centre of a lane and those at transverse ordinates.

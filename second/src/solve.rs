@@ -2,6 +2,7 @@
 
 use crate::account::{self, Account, Answer};
 use crate::job::{self, Job};
+use crate::lanes::lane_counts;
 use crate::line;
 use crate::loads::{Direction, Live, Question};
 use crate::refusals;
@@ -34,6 +35,7 @@ pub fn solve(job: &[u8], patch: &mut [u8]) -> Answer {
 pub fn account_of(job: &Job) -> Account {
     let longitudinal = LongitudinalEffects::of(job);
     let traffic = |live, question| traffic_value(job, &longitudinal, live, question);
+    let [first_lanes, second_lanes] = lane_counts(job).map(|lanes| lanes as u32);
     let mut account = Account {
         normal_greatest: traffic(Live::Normal, Question::Greatest),
         normal_least: traffic(Live::Normal, Question::Least),
@@ -41,6 +43,8 @@ pub fn account_of(job: &Job) -> Account {
         overload_least: traffic(Live::Overload, Question::Least),
         raising: stand(job, Direction::Raising),
         lowering: stand(job, Direction::Lowering),
+        first_lanes,
+        second_lanes,
         ..Account::default()
     };
     let value = |live, question| account.traffic(live, question).value;

@@ -25,23 +25,28 @@ pub fn stored() -> Stored {
 }
 
 /// The cases to store: the generated ones, then those chosen by hand, stream by
-/// stream; then the chosen ones that go with no stream.
+/// stream.
 pub fn cases() -> impl Iterator<Item = Case> {
-    let of_stream = |stream| generated_cases(stream).chain(chosen::cases(stream));
-    let of_streams = Stream::ALL.into_iter().flat_map(of_stream);
-    of_streams.chain(chosen::overload_lanes::cases())
+    let of_stream = |stream| generated_cases(stream).chain(chosen::stored_after(stream));
+    Stream::ALL.into_iter().flat_map(of_stream)
 }
 
 /// How many of a stream's cases are stored.
 fn cases_of(stream: Stream) -> usize {
     match stream {
         Stream::One => 1700,
-        Stream::Four | Stream::Two | Stream::Spans => 400,
+        Stream::Four | Stream::Two | Stream::Spans | Stream::Three => 400,
     }
 }
 
-/// The most bytes of a case that is stored whatever its seed.
-const SHORT_CASE_BYTES: usize = 400;
+/// The most bytes of a case that is stored whatever its seed; two carriageways take
+/// more.
+fn short_case_bytes(stream: Stream) -> usize {
+    match stream {
+        Stream::Three => 600,
+        _ => 400,
+    }
+}
 
 /// Of the seeds of longer cases, one in so many is stored.
 const LONG_CASE_SEEDS: u64 = 32;
@@ -51,7 +56,7 @@ const LONG_CASE_SEEDS: u64 = 32;
 pub fn generated_cases(stream: Stream) -> impl Iterator<Item = Case> {
     let to_store = move |seed: u64| {
         let case = generator::case(stream, seed);
-        let short = case.job.len() + case.patch.len() <= SHORT_CASE_BYTES;
+        let short = case.job.len() + case.patch.len() <= short_case_bytes(stream);
         (short || seed.is_multiple_of(LONG_CASE_SEEDS)).then_some(case)
     };
     (0..).filter_map(to_store).take(cases_of(stream))

@@ -1,15 +1,19 @@
-//! 01 "Lanes" and "Dynamic factor, rounding, rows", 02 "Farm bridges", "Span by sign"
-//! and "Additional overload lanes": the four traffic values, by trying every centre,
-//! direction, lane set, HO lane and assignment of the additional lanes' factors.
+//! 01 "Lanes" and "Dynamic factor, rounding, rows", 02 "Farm bridges", "Span by sign",
+//! "Additional overload lanes" and "Two carriageways": the four traffic values, over
+//! every centre, direction, lane set, HO lane and assignment of the additional lanes'
+//! factors.
 
 use crate::account::{entry_number, Lane, Traffic};
 use crate::job::Job;
-use crate::lanes::{breakpoint_centres, lane_count, transverse_ordinate, MOST_LANES};
+use crate::lanes::{
+    breakpoint_centres, common_denominator, lanes_of_job, transverse_ordinate, MOST_LANES,
+};
 use crate::line::longitudinal_effect;
 use crate::loads::{
     additional_factors, reduction, Direction, Element, Live, Question, OVERLOAD_ELEMENT_TWENTIETHS,
     X_OVER, X_TIMES,
 };
+use std::collections::BTreeMap;
 
 /// An element standing in a lane, at its furthest for a question.
 #[derive(Debug, Clone, Copy, PartialEq, Eq)]
@@ -18,7 +22,7 @@ pub struct LaneElement {
     pub direction: Direction,
     /// In n-ths of a cm.
     pub centre: i64,
-    /// Longitudinal effect times transverse ordinate, times n times g.
+    /// Longitudinal effect times transverse ordinate, times the common denominator.
     pub effect: i128,
 }
 
@@ -65,7 +69,7 @@ pub fn furthest_in_lane(
         direction,
         centre,
         effect: i128::from(longitudinal.get(element, direction))
-            * i128::from(transverse_ordinate(job, centre)),
+            * i128::from(transverse_ordinate(job, lane, centre)),
     };
     let centres = breakpoint_centres(job, lane);
     let mut furthest = at(centres[0], Direction::Raising);
@@ -81,8 +85,9 @@ pub fn furthest_in_lane(
 }
 
 /// A set of loaded lanes with its HO lane, if any, the factors of the lanes beside it
-/// and the sum in 75 N·U times transverse thousandths, times n times g, times
-/// twentieths.
+/// and the sum in 75 N·U times transverse thousandths, times the common denominator,
+/// times twentieths.
+#[derive(Debug, Clone, Copy, PartialEq, Eq)]
 struct Loading {
     set: u32,
     overload_lane: Option<usize>,
@@ -102,7 +107,7 @@ pub fn traffic_value(
     if live == Live::Overload && !job.edition.has_overload() {
         return Traffic::default();
     }
-    let lanes = 0..lane_count(job.width);
+    let lanes = 0..lanes_of_job(job);
     let furthest = |element| -> Vec<LaneElement> {
         lanes
             .clone()
@@ -142,66 +147,131 @@ fn best_normal(hn: &[LaneElement], question: Question) -> Loading {
     let all_sets = 0..1_u32 << hn.len();
     let loadings = all_sets.map(|set| Loading {
         set,
-        overload_lane: None,
-        factors: [0; MOST_LANES],
         sum: reduced_sum(hn, set),
+        ..Loading::EMPTY
     });
-    furthest_loading(loadings, question)
+    first_loading(loadings, question)
 }
 
 /// Overload: one lane carries HO at 20; the other loaded lanes are HN, each at a
-/// factor of its own, those of their number assigned in any way. Of equally good
-/// loadings the lowest HO lane's are taken, of those the lowest set's, and of those
-/// the one with the larger factor in the lower lane.
+/// factor of its own, those of their number assigned in any way. Lane after lane each
+/// load that is left is tried; of the loadings that have given out the same so far the
+/// furthest is kept, since what the further lanes add is the same for all of them. In
+/// the end those count that have given out the factors of their own number.
 fn best_overload(hn: &[LaneElement], ho: &[LaneElement], question: Question) -> Loading {
-    let of_number: Vec<Vec<Vec<i64>>> = (0..hn.len())
-        .map(|count| assignments(&additional_factors(count)))
-        .collect();
-    let loadings = (0..hn.len()).flat_map(|lane| {
-        let sets = (0..1_u32 << hn.len()).filter(move |set| set & (1 << lane) == 0);
-        let assigned = sets.flat_map(|additional| {
-            let assignments = &of_number[additional.count_ones() as usize];
-            assignments.iter().map(move |factors| (additional, factors))
-        });
-        assigned.map(move |(additional, factors)| overload(hn, ho, lane, additional, factors))
-    });
-    furthest_loading(loadings, question)
+    let factors = additional_factors(hn.len() - 1);
+    let mut kept = BTreeMap::from([(GivenOut::NOTHING, Loading::EMPTY)]);
+    for lane in 0..hn.len() {
+        let mut with_lane = kept.clone();
+        for (given_out, loading) in kept {
+            for (load, given_out) in given_out.with_one_more(&factors) {
+                let tried = loading.with(lane, load, &hn[lane], &ho[lane]);
+                keep_the_further(&mut with_lane, given_out, tried, question);
+            }
+        }
+        kept = with_lane;
+    }
+    let lawful = kept.into_iter().filter(|(given_out, _)| given_out.lawful());
+    first_loading(lawful.map(|(_, loading)| loading), question)
 }
 
-/// Every order of these factors, leftmost lane first; where the next may be any, those
-/// earlier in the list come first.
-fn assignments(factors: &[i64]) -> Vec<Vec<i64>> {
-    if factors.is_empty() {
-        return vec![vec![]];
+fn keep_the_further(
+    kept: &mut BTreeMap<GivenOut, Loading>,
+    given_out: GivenOut,
+    tried: Loading,
+    question: Question,
+) {
+    let best = kept.entry(given_out).or_insert(tried);
+    if tried.goes_before(best, question) {
+        *best = tried;
     }
-    let with_first = |at: usize| {
-        let mut rest = factors.to_vec();
-        let first = rest.remove(at);
-        let orders = assignments(&rest).into_iter();
-        orders.map(move |order| [&[first], &order[..]].concat())
+}
+
+/// What a loaded lane carries in overload: HO, or HN at a factor in twentieths.
+#[derive(Debug, Clone, Copy, PartialEq, Eq)]
+enum Load {
+    Ho,
+    Additional(i64),
+}
+
+/// What lanes carry so far: whether HO, and which of the factors of additional lanes,
+/// a bit each, the first lane's the lowest.
+#[derive(Debug, Clone, Copy, PartialEq, Eq, PartialOrd, Ord)]
+struct GivenOut {
+    ho: bool,
+    factors: u32,
+}
+
+impl GivenOut {
+    const NOTHING: GivenOut = GivenOut {
+        ho: false,
+        factors: 0,
     };
-    (0..factors.len()).flat_map(with_first).collect()
+
+    /// One more load that is left, each with what is given out then. Of equal factors
+    /// the first is given out first.
+    fn with_one_more(self, factors: &[i64]) -> Vec<(Load, GivenOut)> {
+        let mut loads = vec![];
+        if !self.ho {
+            loads.push((Load::Ho, GivenOut { ho: true, ..self }));
+        }
+        let is_left = |number: usize| self.factors & (1 << number) == 0;
+        for (number, &factor) in factors.iter().enumerate() {
+            let an_equal_is_first =
+                number > 0 && factors[number - 1] == factor && is_left(number - 1);
+            if is_left(number) && !an_equal_is_first {
+                let factors = self.factors | 1 << number;
+                loads.push((Load::Additional(factor), GivenOut { factors, ..self }));
+            }
+        }
+        loads
+    }
+
+    /// HO once, and of the factors the first so many.
+    fn lawful(self) -> bool {
+        self.ho && (self.factors + 1).is_power_of_two()
+    }
 }
 
-/// HO in a lane and HN in the additional ones, with their factors, leftmost first.
-fn overload(
-    hn: &[LaneElement],
-    ho: &[LaneElement],
-    overload_lane: usize,
-    additional: u32,
-    assigned: &[i64],
-) -> Loading {
-    let mut factors = [0; MOST_LANES];
-    let mut sum = i128::from(OVERLOAD_ELEMENT_TWENTIETHS) * ho[overload_lane].effect;
-    for (lane, &factor) in lanes_of(additional).zip(assigned) {
-        factors[lane] = factor;
-        sum += i128::from(factor) * hn[lane].effect;
+impl Loading {
+    const EMPTY: Loading = Loading {
+        set: 0,
+        overload_lane: None,
+        factors: [0; MOST_LANES],
+        sum: 0,
+    };
+
+    /// The loading with one more lane in overload.
+    fn with(mut self, lane: usize, load: Load, hn: &LaneElement, ho: &LaneElement) -> Loading {
+        self.set |= 1 << lane;
+        match load {
+            Load::Ho => {
+                self.overload_lane = Some(lane);
+                self.sum += i128::from(OVERLOAD_ELEMENT_TWENTIETHS) * ho.effect;
+            }
+            Load::Additional(factor) => {
+                self.factors[lane] = factor;
+                self.sum += i128::from(factor) * hn.effect;
+            }
+        }
+        self
     }
-    Loading {
-        set: additional | 1 << overload_lane,
-        overload_lane: Some(overload_lane),
-        factors,
-        sum,
+
+    /// Whether it goes further than another or, where it goes as far, has the lower HO
+    /// lane, then the lower set, then the larger factor in the lower lane. What further
+    /// lanes add to both leaves it so.
+    fn goes_before(&self, other: &Loading, question: Question) -> bool {
+        if self.sum != other.sum {
+            return question.beats(self.sum, other.sum);
+        }
+        let in_order = |one: &Loading| {
+            (
+                one.overload_lane,
+                one.set,
+                one.factors.map(|factor| -factor),
+            )
+        };
+        in_order(self) < in_order(other)
     }
 }
 
@@ -211,16 +281,16 @@ fn reduced_sum(hn: &[LaneElement], set: u32) -> i128 {
     i128::from(reduction(set)) * sum
 }
 
-/// The first of those loadings that none beats.
-fn furthest_loading(loadings: impl Iterator<Item = Loading>, question: Question) -> Loading {
-    let further = |best: Loading, tried: Loading| {
-        if question.beats(tried.sum, best.sum) {
+/// The loading that goes before all others.
+fn first_loading(loadings: impl Iterator<Item = Loading>, question: Question) -> Loading {
+    let first = |best: Loading, tried: Loading| {
+        if tried.goes_before(&best, question) {
             tried
         } else {
             best
         }
     };
-    loadings.reduce(further).expect("there is a lane")
+    loadings.reduce(first).expect("there is a lane")
 }
 
 /// The lanes of a set, leftmost first.
@@ -229,12 +299,12 @@ pub fn lanes_of(set: u32) -> impl Iterator<Item = usize> {
 }
 
 /// 3X/800000, or the edition's share of it, with the dynamic factor of its question
-/// and rounded for it. The sum still carries n times g.
+/// and rounded for it. The sum still carries the common denominator.
 fn effect_in_whole_units(job: &Job, sum: i128, question: Question) -> i64 {
     let dynamic = i128::from(job.dynamic_factor(question));
-    let n_times_g = lane_count(job.width) as i128 * i128::from(job.spacing);
+    let denominator = i128::from(common_denominator(job));
     let (share, whole) = job.edition.share_of_x();
     let dividend = X_TIMES * sum * dynamic * share;
-    let rounded = question.round(dividend, X_OVER * n_times_g * whole);
+    let rounded = question.round(dividend, X_OVER * denominator * whole);
     i64::try_from(rounded).expect("a traffic value fits 64 bits")
 }

@@ -1,8 +1,9 @@
-//! 02 "Ordinates in sixteen bits": words that are lawful ordinates in their low
-//! 16 bits alone, and what to put at the ordinates of a sound job or train to
-//! see whether refusal 4 tests the whole word. None of it is stored.
+//! 02 "Ordinates in sixteen bits" and "Two carriageways": words that are lawful
+//! ordinates in their low 16 bits alone, and what to put at the ordinates of a sound job
+//! or train to see whether refusal 4 tests the whole word. None of it is stored.
 
-use crate::refusals::{MOST_ACROSS, MOST_IN_LINE};
+use crate::edition::Edition;
+use crate::refusals::MOST_ACROSS;
 use crate::sections::{Sections, WORDS_PER_PIECE};
 use crate::words::Change;
 use std::ops::Range;
@@ -46,17 +47,23 @@ fn fault(place: usize, changes: &[Change]) -> Fault {
 #[derive(Debug, Clone, PartialEq, Eq)]
 pub struct Ordinates {
     line: Range<usize>,
-    /// Empty for a train.
-    transverse: Range<usize>,
+    /// The most that an ordinate of the line is away from 0.
+    most_in_line: i32,
+    /// One for each carriageway, in word order; none for a train.
+    transverse: Vec<Range<usize>>,
 }
 
 impl Ordinates {
     /// Those of a job with a lawful header.
     pub fn of_job(words: &[i32]) -> Ordinates {
+        let edition = Edition::of_words(words).expect("the edition is admitted");
         let sections = Sections::called_for_by(words);
+        let mut transverse = vec![sections.transverse, sections.second_transverse];
+        transverse.retain(|section| !section.is_empty());
         Ordinates {
             line: sections.line,
-            transverse: sections.transverse,
+            most_in_line: edition.most_in_line(),
+            transverse,
         }
     }
 
@@ -64,7 +71,8 @@ impl Ordinates {
     pub fn of_section(pieces: usize) -> Ordinates {
         Ordinates {
             line: 0..WORDS_PER_PIECE * pieces,
-            transverse: 0..0,
+            most_in_line: Edition::One.most_in_line(),
+            transverse: vec![],
         }
     }
 
@@ -91,7 +99,7 @@ impl Ordinates {
 
     /// A wide word at each place there is.
     fn one_outside_anywhere(&self) -> Vec<Fault> {
-        let places = self.line.clone().chain(self.transverse.clone());
+        let places = self.line.clone().chain(self.places_across());
         places
             .map(|place| fault(place, &[(place, 65541)]))
             .collect()
@@ -119,7 +127,7 @@ impl Ordinates {
         let mut faults = Vec::new();
         for left in self.pieces_of_each_kind() {
             for (place, other) in [(left, left + 1), (left + 1, left)] {
-                for word in wide_words(MOST_IN_LINE) {
+                for word in wide_words(self.most_in_line) {
                     for beside in [5, -5] {
                         faults.push(fault(place, &[(place, word), (other, beside)]));
                     }
@@ -156,12 +164,12 @@ impl Ordinates {
     fn one_at_an_extreme(&self) -> Vec<Vec<Change>> {
         let mut changes = Vec::new();
         for left in self.pieces_of_each_kind() {
-            for word in [MOST_IN_LINE, -MOST_IN_LINE] {
+            for word in [self.most_in_line, -self.most_in_line] {
                 changes.push(vec![(left, word), (left + 1, 0)]);
                 changes.push(vec![(left, 0), (left + 1, word)]);
             }
         }
-        for place in first_middle_and_last(&self.transverse, 1) {
+        for place in self.across_of_each_kind() {
             changes.extend([MOST_ACROSS, -MOST_ACROSS].map(|word| vec![(place, word)]));
         }
         changes
@@ -176,9 +184,9 @@ impl Ordinates {
             for across in SIGNS {
                 let line = self.line.clone().enumerate().map(|(number, place)| {
                     let piece = number / WORDS_PER_PIECE;
-                    (place, MOST_IN_LINE * in_line[piece % 2])
+                    (place, self.most_in_line * in_line[piece % 2])
                 });
-                let transverse = self.transverse.clone().enumerate();
+                let transverse = self.places_across().enumerate();
                 let transverse =
                     transverse.map(|(number, place)| (place, MOST_ACROSS * across[number % 2]));
                 changes.push(line.chain(transverse).collect());
@@ -194,12 +202,26 @@ impl Ordinates {
         first_middle_and_last(&self.line, WORDS_PER_PIECE)
     }
 
+    /// The places of all transverse ordinates.
+    fn places_across(&self) -> impl Iterator<Item = usize> + '_ {
+        self.transverse.iter().cloned().flatten()
+    }
+
+    /// The first, the middle and the last across, on each carriageway.
+    fn across_of_each_kind(&self) -> Vec<usize> {
+        let sections = self.transverse.iter();
+        sections
+            .flat_map(|section| first_middle_and_last(section, 1))
+            .collect()
+    }
+
     /// An ordinate of each kind, as its place and the most that it may be away
     /// from 0: both of these pieces; the first, the middle and the last across.
     fn of_each_kind(&self) -> Vec<(usize, i32)> {
         let lefts = self.pieces_of_each_kind().into_iter();
-        let in_line = lefts.flat_map(|left| [(left, MOST_IN_LINE), (left + 1, MOST_IN_LINE)]);
-        let across = first_middle_and_last(&self.transverse, 1).into_iter();
+        let most = self.most_in_line;
+        let in_line = lefts.flat_map(|left| [(left, most), (left + 1, most)]);
+        let across = self.across_of_each_kind().into_iter();
         in_line
             .chain(across.map(|place| (place, MOST_ACROSS)))
             .collect()

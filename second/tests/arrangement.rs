@@ -1,5 +1,5 @@
-//! 01 "Arrangements, for demand 3", 02 "Farm bridges", "Span by sign" and "Additional
-//! overload lanes": hand-worked arrangements, and the rules.
+//! 01 "Arrangements, for demand 3", 02 "Farm bridges", "Span by sign", "Additional overload
+//! lanes" and "Two carriageways": hand-worked arrangements, and the rules.
 
 #![allow(clippy::single_range_in_vec_init)] // One loaded range is meant.
 
@@ -7,6 +7,7 @@ mod common;
 
 use common::{level_job, small_farm_job, spans_job, two_lane_job, with_factor};
 use second::arrangement::{Arrangement, LoadedLane};
+use second::chosen::edition_3::{level_job as chosen_level_job, sloped_job};
 use second::fraction::Fraction;
 use second::job::Job;
 use second::loads::{Element, Live, Question, Side};
@@ -347,5 +348,82 @@ fn an_arrangement_counts_the_factor_of_the_question() {
             let due = Fraction::whole(sign * 960 * factor);
             assert_eq!(one.effect(&job, Live::Normal, question), due);
         }
+    }
+}
+
+/// Two lanes of 350.5 cm and, across the median, one of 437: centres run from 150 to 200.5
+/// and from 500.5 to 551 cm, and from 150 to 287 cm on the second side.
+#[test]
+fn centres_from_their_own_kerbs() {
+    let job = sloped_job(701, 437);
+    let at = |lane_number: usize, k: i128, centre: i128| {
+        let standing = lane(Element::Hn, 0, Side::Left, centre);
+        arrangement(k, &[(lane_number, standing)]).lawful(&job, Live::Normal)
+    };
+    let outside = |lane_number: usize| {
+        let rule = "its centre is outside the lane's limits";
+        Err(format!("lane {}: {rule}", lane_number + 1))
+    };
+    for (number, k, from, to) in [
+        (0, 1, 150, 200),
+        (0, 2, 300, 401),
+        (1, 1, 501, 551),
+        (1, 2, 1001, 1102),
+        (2, 1, 150, 287),
+        (2, 2, 300, 574),
+        (2, 3, 450, 861),
+    ] {
+        assert_eq!(at(number, k, from), Ok(()));
+        assert_eq!(at(number, k, to), Ok(()));
+        assert_eq!(at(number, k, from - 1), outside(number));
+        assert_eq!(at(number, k, to + 1), outside(number));
+    }
+    assert_eq!(at(3, 1, 200), Err("lane 4: is past the last lane".into()));
+}
+
+/// The right axle of each HN is on 8, 12800. The first side is 950 - 31 x / 37 at x cm, so 30500/37 at
+/// 150 cm; the second 797 at 222 cm, and 797 - 668/37 a cm on, as it falls to 129 in 37.
+/// Two lanes at 18 give 12800 * 18 * 3 / 800 = 864 N·U for each thousandth.
+#[test]
+fn lanes_of_two_sides_add_up() {
+    let job = sloped_job(701, 437);
+    let of = |k: i128, first: i128, second: i128| {
+        let standing = |centre| lane(Element::Hn, -k, Side::Right, centre);
+        let lanes = [(0, standing(first)), (2, standing(second))];
+        arrangement(k, &lanes).effect(&job, Live::Normal, Question::Greatest)
+    };
+    let thousandth = Fraction::whole(864);
+    let first = Fraction::new(30_500, 37);
+    assert_eq!(of(1, 150, 222), thousandth * (first + Fraction::whole(797)));
+    let fallen = Fraction::new(797 * 37 - 668, 37);
+    assert_eq!(of(1, 150, 223), thousandth * (first + fallen));
+    assert_eq!(of(6, 900, 1338), thousandth * (first + fallen));
+}
+
+/// Ten lanes under 1000, the right axle of each on 8, 12800: r is 12 for five of them and 11 for six
+/// and more. For each lane 12800 * 1000 * 3 / 800 = 48000 N·U a twentieth.
+#[test]
+fn r_of_six_lanes_and_more() {
+    let job = chosen_level_job(1710, 2079);
+    for (lanes, r) in [
+        (4, 14),
+        (5, 12),
+        (6, 11),
+        (7, 11),
+        (8, 11),
+        (9, 11),
+        (10, 11),
+    ] {
+        let standing = |number: usize| {
+            let (width, own) = [(1710, number), (2079, number.wrapping_sub(5))][number / 5];
+            let centre = own as i128 * width + 5 * 150;
+            (number, lane(Element::Hn, -5, Side::Right, centre))
+        };
+        let loaded: Vec<_> = (10 - lanes..10).map(standing).collect();
+        let found = arrangement(5, &loaded);
+        assert_eq!(found.lawful(&job, Live::Normal), Ok(()));
+        let effect = found.effect(&job, Live::Normal, Question::Greatest);
+        let due = 48_000 * r * lanes as i128;
+        assert_eq!(effect, Fraction::whole(due), "{lanes} lanes");
     }
 }

@@ -211,8 +211,11 @@ fn wrong_placements_are_refused() {
             ("does not agree with the lane set", |call| {
                 call.answer.account.normal_greatest.set = 0b111
             }),
-            ("names no lane", |call| {
+            ("does not agree with the lane set", |call| {
                 call.answer.account.normal_greatest.set |= 1 << 5
+            }),
+            ("names no lane", |call| {
+                call.answer.account.normal_greatest.set |= 1 << 10
             }),
             ("names no lane", |call| {
                 call.answer.account.normal_greatest.set |= 1 << 31
@@ -703,7 +706,7 @@ fn equally_good_omissions_are_free() {
 #[test]
 fn no_changed_value_or_row_passes() {
     for seed in 0..1500 {
-        let case = case(Stream::ALL[seed as usize % 4], seed / 4);
+        let case = case(Stream::ALL[seed as usize % 5], seed / 5);
         let call = Call::new(&case.job, &case.patch);
         let changes: [Change; 12] = [
             |call| call.answer.account.normal_greatest.value -= 1,

@@ -3,7 +3,7 @@
 use second::chosen::{self, PAST_LIMITS};
 use second::edition::Edition;
 use second::generator::Stream;
-use second::solve;
+use second::{solve, store};
 
 /// Job A's rows follow 10 words, 40 ordinates, 19 transverse ones and, here,
 /// sixteen effects: they start at word 101.
@@ -116,12 +116,16 @@ fn jobs_of_additional_lanes_are_accepted() {
     }
 }
 
-/// They come after all others.
+/// They come after all of editions 1, 2 and 4; then come those of edition 3.
 #[test]
-fn jobs_of_additional_lanes_are_stored_last() {
+fn jobs_of_additional_lanes_are_stored_before_those_of_edition_3() {
     let of_lanes: Vec<_> = chosen::overload_lanes::cases().collect();
-    let stored: Vec<_> = second::store::cases().collect();
-    assert_eq!(stored[stored.len() - of_lanes.len()..], of_lanes);
+    let generated = store::generated_cases(Stream::Three);
+    let of_edition_3: Vec<_> = generated.chain(chosen::cases(Stream::Three)).collect();
+    let stored: Vec<_> = store::cases().collect();
+    let last = stored.len() - of_edition_3.len();
+    assert!(stored[last..] == of_edition_3);
+    assert!(stored[last - of_lanes.len()..last] == of_lanes);
 }
 
 /// A case stored twice tells nothing new.
@@ -129,7 +133,7 @@ fn jobs_of_additional_lanes_are_stored_last() {
 fn none_is_stored_twice() {
     let generated: Vec<_> = Stream::ALL
         .into_iter()
-        .flat_map(second::store::generated_cases)
+        .flat_map(store::generated_cases)
         .collect();
     let chosen: Vec<_> = chosen::all().collect();
     for (number, case) in chosen.iter().enumerate() {

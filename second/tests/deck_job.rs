@@ -1,11 +1,11 @@
 //! 02 "Additional overload lanes": the example with four lanes, worked out by hand. No
 //! other placement is as good as one its page shows, but for the pairs' sides.
 
+mod common;
+
+use common::one_best;
 use second::deck_job::deck_job;
-use second::job::Job;
-use second::lanes::{breakpoint_centres, transverse_ordinate};
-use second::line::{longitudinal_effect, pair_ordinates, patch_byte, stations, Stand};
-use second::loads::{Direction, Element, Live, Question, Side};
+use second::loads::Live;
 use second::report::page;
 use second::solve::account_of;
 
@@ -79,126 +79,21 @@ service least 129802515300 row 1, left out 2, traffic counts
 ultimate greatest 757724301000 row 2, left out 0, traffic counts
 ultimate least 109734018000 row 2, left out 2, traffic counts
 ";
-    assert_eq!(page(4, &account_of(&deck_job())), expected);
+    assert_eq!(page(&account_of(&deck_job())), expected);
 }
 
-/// The furthest of some numbers, and how many of them are as far.
-fn furthest(numbers: &[i128], question: Question) -> (i128, usize) {
-    let furthest = match question {
-        Question::Greatest => numbers.iter().max(),
-        Question::Least => numbers.iter().min(),
-    };
-    let furthest = *furthest.expect("a number");
-    let as_far = numbers.iter().filter(|&&number| number == furthest);
-    (furthest, as_far.count())
-}
-
-/// One station is best for either pair. The line has no jump, so both sides of it are
-/// as good, and left is shown. Every piece is loaded in one direction.
 #[test]
 fn no_other_station_is_as_good() {
-    let job = deck_job();
-    let pairs = |side| -> Vec<i128> {
-        let stands = stations(&job).map(|station| Stand { station, side });
-        stands
-            .map(|stand| pair_ordinates(&job, stand).into())
-            .collect()
-    };
-    let from_left = pairs(Side::Left);
-    assert_eq!(from_left, pairs(Side::Right));
-    assert_eq!(furthest(&from_left, Question::Greatest), (820, 1));
-    assert_eq!(furthest(&from_left, Question::Least), (-183, 1));
-    assert!(job.pieces.iter().all(|piece| patch_byte(piece) != 0));
+    one_best::no_other_station_is_as_good(&deck_job(), 820, -183);
 }
 
-/// A lane's element with the twentieths it counts at; none where it is unloaded.
-type Role = Option<(Element, i64)>;
-
-const HO: Role = Some((Element::Ho, 20));
-const ADDITIONAL: [Role; 3] = [
-    Some((Element::Hn, 20)),
-    Some((Element::Hn, 18)),
-    Some((Element::Hn, 16)),
-];
-
-/// Any set of lanes at the r of its number.
-fn normal_roles() -> Vec<[Role; 4]> {
-    let roles = |set: usize| {
-        let r = [20, 20, 18, 16, 14][set.count_ones() as usize];
-        [0, 1, 2, 3].map(|lane| (set >> lane & 1 == 1).then_some((Element::Hn, r)))
-    };
-    (0..1 << 4).map(roles).collect()
-}
-
-/// HO in one lane; of the additional lanes' factors the first so many, once each.
-fn overload_roles() -> Vec<[Role; 4]> {
-    let [first, second, third] = ADDITIONAL;
-    let open = [None, HO, first, second, third];
-    let roles = (0..5 * 5 * 5 * 5).map(|code| [1, 5, 25, 125].map(|place| open[code / place % 5]));
-    let lawful = |roles: &[Role; 4]| {
-        let times = |due: Role| roles.iter().filter(|&&role| role == due).count();
-        let additional = ADDITIONAL.map(times);
-        let first_so_many = [[0, 0, 0], [1, 0, 0], [1, 1, 0], [1, 1, 1]];
-        times(HO) == 1 && first_so_many.contains(&additional)
-    };
-    roles.filter(lawful).collect()
-}
-
-/// What an element gives in a lane, in either direction at each breakpoint centre, times
-/// n times g.
-fn in_lane(job: &Job, lane: usize, element: Element) -> Vec<i128> {
-    let directions = [Direction::Raising, Direction::Lowering];
-    let effects = directions.map(|direction| longitudinal_effect(job, element, direction));
-    let centres = breakpoint_centres(job, lane).into_iter();
-    let ordinates = centres.map(|centre| transverse_ordinate(job, centre));
-    ordinates
-        .flat_map(|ordinate| effects.map(|effect| i128::from(effect) * i128::from(ordinate)))
-        .collect()
-}
-
-/// The sums in twentieths over every direction and centre in each lane.
-fn sums(job: &Job, roles: [Role; 4]) -> Vec<i128> {
-    let mut sums = vec![0];
-    for (lane, role) in roles.into_iter().enumerate() {
-        let Some((element, twentieths)) = role else {
-            continue;
-        };
-        let effects = in_lane(job, lane, element);
-        let with_lane = |sum: i128| {
-            let effects = effects.iter();
-            effects.map(move |effect| sum + i128::from(twentieths) * effect)
-        };
-        sums = sums.into_iter().flat_map(with_lane).collect();
-    }
-    sums
-}
-
-/// Of every lane set, HO lane, assignment, centre and direction one is best for each
-/// value. Between breakpoints no ordinate is level, so no centre there is as good. A sum
-/// counts 160 times, n times g.
+/// A sum counts 160 times, n times g.
 #[test]
 fn no_other_placement_is_as_good() {
-    let job = deck_job();
-    for lane in 0..4 {
-        let centres = breakpoint_centres(&job, lane);
-        let level =
-            |ends: &[i64]| transverse_ordinate(&job, ends[0]) == transverse_ordinate(&job, ends[1]);
-        assert!(!centres.windows(2).any(level), "lane {}", lane + 1);
-    }
     let due = [
         (Live::Normal, [40_898_952_400, -10_908_436_175]),
         (Live::Overload, [67_006_625_350, -18_385_577_150]),
     ];
-    for (live, values) in due {
-        let roles = match live {
-            Live::Normal => normal_roles(),
-            Live::Overload => overload_roles(),
-        };
-        let of_roles = roles.into_iter().flat_map(|roles| sums(&job, roles));
-        let every_sum: Vec<i128> = of_roles.collect();
-        for (question, value) in Question::BOTH.into_iter().zip(values) {
-            let found = furthest(&every_sum, question);
-            assert_eq!(found, (160 * value, 1), "{live:?} {question:?}");
-        }
-    }
+    let due = due.map(|(live, values)| (live, values.map(|value: i128| 160 * value)));
+    one_best::no_other_placement_is_as_good(&deck_job(), due);
 }

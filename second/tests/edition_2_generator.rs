@@ -185,7 +185,7 @@ fn expected_refusals() -> Vec<String> {
     .to_vec();
     expected.extend(REFUSALS_IN_EVERY_EDITION.map(String::from));
     expected.extend([40, 43, 44, 47].map(|bytes| format!("1: {bytes} bytes")));
-    expected.extend([0, 3, 5, -2].map(|edition| format!("1: edition {edition}")));
+    expected.extend([0, 5, -2].map(|edition| format!("1: edition {edition}")));
     expected.extend((1..=11).map(|place| format!("2: word {place}")));
     for place in [10, 11] {
         expected.extend([1, -1].map(|word| format!("2: word {place} is {word}")));
@@ -280,7 +280,7 @@ stream_tests!(Asked {
     seeds: 20_000,
     with_chosen: true,
     order: &[1, 2, 3, 4, 5, 6, 7, 8, 9],
-    admitted_since: &[],
+    admitted_since: &[Edition::Three],
     least_of_3: 180,
     sum: 15_329_208_469_268_208_468,
 });

@@ -68,17 +68,18 @@ fn refusal_1_for_headers_of_other_lengths() {
 #[test]
 fn refusal_1_for_uneven_bytes_and_other_editions() {
     no_job_of_lengths(&SOUND, [49, 50, 51, 161, 162, 163, 165, 166, 167]);
-    for edition in [0, 3, 5, -2, 258, 0x0200_0000, i32::MIN, i32::MAX] {
+    for edition in [0, 5, 6, -2, 258, 0x0200_0000, i32::MIN, i32::MAX] {
         refused_with(&[(0, edition)], (1, 0));
         refused_with(&[(0, edition), (10, 1), (23, 0)], (1, 0));
     }
 }
 
-/// As edition 1 the job has four words too many; as edition 4 two effects where
-/// eleven are due.
+/// As edition 1 the job has four words too many; as edition 3 its first ordinate, 8, is
+/// no second width; as edition 4 it has two effects where eleven are due.
 #[test]
 fn word_0_chooses_the_limits() {
     refused_with(&[(0, 1)], (3, 37));
+    refused_with(&[(0, 3)], (2, 12));
     refused_with(&[(0, 4)], (2, 7));
 }
 
@@ -287,7 +288,7 @@ fn refusals_7_and_8_at_the_rows() {
 fn refusal_9_comes_last() {
     let table = [
         (&[][..], (9, 1)),
-        (&[(0, 3)], (1, 0)),
+        (&[(0, 5)], (1, 0)),
         (&[(11, 1)], (2, 11)),
         (&[(7, 3)], (3, 44)),
         (&[(12, 5001)], (4, 12)),

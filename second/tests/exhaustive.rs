@@ -6,6 +6,7 @@ mod common;
 use common::farm_tables::{FIRST_ULTIMATE_ROW, K, LIVE, ROWS};
 use common::{definition, level_job, pieces, small_farm_job, spans_job, with_factor};
 use second::arrangement::{Arrangement, LoadedLane};
+use second::chosen::edition_3;
 use second::chosen::overload_lanes::lanes_job;
 use second::edition::Edition;
 use second::job::Job;
@@ -158,6 +159,36 @@ fn one_lane_is_reported(job: &Job, ks: &[i128]) {
     }
 }
 
+/// Every arrangement of k 1 with these elements in lanes 1 and 2, or without them.
+fn for_each_pair(
+    left: &[LoadedLane],
+    right: &[LoadedLane],
+    mut take: impl FnMut(Live, &Arrangement),
+) {
+    let pair = |left: Option<LoadedLane>, right: Option<LoadedLane>| {
+        let mut arrangement = Arrangement::empty(1);
+        arrangement.lanes[0] = left;
+        arrangement.lanes[1] = right;
+        arrangement
+    };
+    take(Live::Normal, &Arrangement::empty(1));
+    for one in left {
+        take(Live::Normal, &pair(Some(one.clone()), None));
+        take(Live::Overload, &pair(Some(as_ho(one)), None));
+        for other in right {
+            let both = |one, other| pair(Some(one), Some(other));
+            take(Live::Normal, &both(one.clone(), other.clone()));
+            let additional = (with_factor(one, 20), with_factor(other, 20));
+            take(Live::Overload, &both(as_ho(one), additional.1));
+            take(Live::Overload, &both(additional.0, as_ho(other)));
+        }
+    }
+    for other in right {
+        take(Live::Normal, &pair(None, Some(other.clone())));
+        take(Live::Overload, &pair(None, Some(as_ho(other))));
+    }
+}
+
 /// W 602: two lanes of 301 cm, whose centres run from 150 to 151 and from 451
 /// to 452 cm, all in whole cm, so that k = 1 reaches every limit.
 #[test]
@@ -177,26 +208,36 @@ fn two_lanes() {
         let right = every_element(&job, 1, 451..=452, 1);
         let mut normal = Furthest::new(Live::Normal);
         let mut overload = Furthest::new(Live::Overload);
-        normal.take(&job, &Arrangement::empty(1));
-        let pair = |left: Option<LoadedLane>, right: Option<LoadedLane>| {
-            let mut arrangement = Arrangement::empty(1);
-            arrangement.lanes[0] = left;
-            arrangement.lanes[1] = right;
-            arrangement
-        };
-        for one in &left {
-            normal.take(&job, &pair(Some(one.clone()), None));
-            overload.take(&job, &pair(Some(as_ho(one)), None));
-            for other in &right {
-                normal.take(&job, &pair(Some(one.clone()), Some(other.clone())));
-                overload.take(&job, &pair(Some(as_ho(one)), Some(with_factor(other, 20))));
-                overload.take(&job, &pair(Some(with_factor(one, 20)), Some(as_ho(other))));
-            }
-        }
-        for other in &right {
-            normal.take(&job, &pair(None, Some(other.clone())));
-            overload.take(&job, &pair(None, Some(as_ho(other))));
-        }
+        for_each_pair(&left, &right, |live, arrangement| match live {
+            Live::Normal => normal.take(&job, arrangement),
+            Live::Overload => overload.take(&job, arrangement),
+        });
+        normal.is_reported(&job);
+        overload.is_reported(&job);
+    }
+}
+
+/// One lane on each side of a median, of 302 cm and of 303, whose centres run from 150 to
+/// 152 and to 153 cm from their own kerbs; g 38 puts an ordinate at 152 cm. Both sides
+/// have n 1, so that k = 1 reaches every limit.
+#[test]
+fn a_lane_on_each_side() {
+    for (line, across) in lines()
+        .into_iter()
+        .zip([[7, -9, 4], [-5, 3, 8], [2, 2, -6]])
+    {
+        let ordinates = |from: usize| (from..from + 9).map(|at| across[at % 3] * 100 + 3);
+        let mut job = spans_job(90, 1800).with_second_carriageway(303, ordinates(1).collect());
+        (job.width, job.spacing, job.pieces) = (302, 38, line);
+        job.transverse = ordinates(0).collect();
+        let left = every_element(&job, 1, 150..=152, 1);
+        let right = every_element(&job, 1, 150..=153, 1);
+        let mut normal = Furthest::new(Live::Normal);
+        let mut overload = Furthest::new(Live::Overload);
+        for_each_pair(&left, &right, |live, arrangement| match live {
+            Live::Normal => normal.take(&job, arrangement),
+            Live::Overload => overload.take(&job, arrangement),
+        });
         normal.is_reported(&job);
         overload.is_reported(&job);
     }
@@ -235,24 +276,45 @@ fn every_choice(lane: usize, factors: &[i64]) -> Vec<Option<LoadedLane>> {
 /// Every choice in every lane: so many are lawful, and the furthest of them is reported.
 #[track_caller]
 fn additional_lanes_are_reported(ordinates: &[i64], factors: &[i64], lawful: usize) {
-    let job = lanes_job(Edition::One, ordinates);
     let lanes = 0..ordinates.len();
     let choices: Vec<_> = lanes.map(|lane| every_choice(lane, factors)).collect();
-    let each = choices[0].len();
+    choices_are_reported(&lanes_job(Edition::One, ordinates), &choices, lawful);
+}
+
+/// So it is on both sides of a median, each lane's centre from its own kerb.
+#[track_caller]
+fn lanes_of_two_sides_are_reported(first: &[i64], second: &[i64], factors: &[i64], lawful: usize) {
+    let lanes = (0..first.len()).chain(0..second.len());
+    let choices: Vec<_> = lanes.map(|lane| every_choice(lane, factors)).collect();
+    choices_are_reported(&edition_3::lanes_job(first, second), &choices, lawful);
+}
+
+#[track_caller]
+fn choices_are_reported(job: &Job, choices: &[Vec<Option<LoadedLane>>], lawful: usize) {
     let mut overload = Furthest::new(Live::Overload);
     let mut found = 0;
-    for way in 0..each.pow(ordinates.len() as u32) {
-        let mut arrangement = Arrangement::empty(1);
-        for (lane, choices) in choices.iter().enumerate() {
-            arrangement.lanes[lane] = choices[way / each.pow(lane as u32) % each].clone();
-        }
-        if arrangement.lawful(&job, Live::Overload).is_ok() {
-            overload.take(&job, &arrangement);
+    for arrangement in every_arrangement(choices) {
+        if arrangement.lawful(job, Live::Overload).is_ok() {
+            overload.take(job, &arrangement);
             found += 1;
         }
     }
     assert_eq!(found, lawful);
-    overload.is_reported(&job);
+    overload.is_reported(job);
+}
+
+/// Every choice in every lane, of k 1.
+fn every_arrangement(
+    choices: &[Vec<Option<LoadedLane>>],
+) -> impl Iterator<Item = Arrangement> + '_ {
+    let each = choices[0].len();
+    (0..each.pow(choices.len() as u32)).map(move |way| {
+        let mut arrangement = Arrangement::empty(1);
+        for (lane, choices) in choices.iter().enumerate() {
+            arrangement.lanes[lane] = choices[way / each.pow(lane as u32) % each].clone();
+        }
+        arrangement
+    })
 }
 
 /// HO in each lane raises or lowers, and so does each of m additional lanes, which are
@@ -268,6 +330,51 @@ fn additional_lanes() {
     additional_lanes_are_reported(&[1000, 800, -1000, 600], &factors, 4 * 158);
     let due = [14, 16, 18, 20];
     additional_lanes_are_reported(&[-1000, 900, 1000, 800, -900], &due, 5 * 1266);
+}
+
+/// As many ways as on one side, wherever the median is.
+#[test]
+fn additional_lanes_on_two_sides() {
+    let factors = [0, 11, 12, 14, 16, 18, 20];
+    for (first, second) in [
+        (&[500][..], &[1000, 800][..]),
+        (&[1000, 800], &[-1000]),
+        (&[-300, 700], &[0]),
+    ] {
+        lanes_of_two_sides_are_reported(first, second, &factors, 3 * 26);
+    }
+    lanes_of_two_sides_are_reported(&[1000], &[800, -1000, 600], &factors, 4 * 158);
+    let due = [14, 16, 18, 20];
+    lanes_of_two_sides_are_reported(&[-1000, 900], &[1000, 800, -900], &due, 5 * 1266);
+}
+
+/// Seven lanes over a line of 8 along 5 m, each without an element, with HO or with HN at one
+/// of these factors, all raising. HO is in any of seven, and beside it m of six are chosen and
+/// have the first m factors in any order: 1, 6, 30, 120, 360, 720 and 720 ways.
+#[test]
+fn seven_lanes_on_two_sides() {
+    let mut job = edition_3::lanes_job(&[500, 1000, 700, 600], &[400, 900, 800]);
+    job.pieces.truncate(1);
+    let choices: Vec<_> = (0..4)
+        .chain(0..3)
+        .map(|lane| {
+            let hn = element(lane, true);
+            let additional = [20, 18, 16, 14, 12, 11].map(|factor| with_factor(&hn, factor));
+            let loaded = [as_ho(&hn)].into_iter().chain(additional);
+            [None].into_iter().chain(loaded.map(Some)).collect()
+        })
+        .collect();
+    let lawful = every_arrangement(&choices)
+        .filter(|arrangement| arrangement.lawful(&job, Live::Overload).is_ok());
+    let effects: Vec<i128> = lawful
+        .map(|arrangement| {
+            let effect = arrangement.effect(&job, Live::Overload, Question::Greatest);
+            effect.round(Question::Greatest)
+        })
+        .collect();
+    assert_eq!(effects.len(), 7 * 1957);
+    let reported = solve(&job.bytes(), &mut [0]).account.overload_greatest;
+    assert_eq!(effects.into_iter().max(), Some(reported.value.into()));
 }
 
 /// What every row of a farm job comes to with every omission, both k and a

@@ -224,7 +224,7 @@ fn expected_refusals() -> Vec<String> {
     .to_vec();
     expected.extend(REFUSALS_IN_EVERY_EDITION.map(String::from));
     expected.extend((40..44).map(|bytes| format!("1: {bytes} bytes")));
-    expected.extend([0, 3, 5, -4].map(|edition| format!("1: edition {edition}")));
+    expected.extend([0, 5, -4].map(|edition| format!("1: edition {edition}")));
     expected.extend((1..=10).map(|place| format!("2: word {place}")));
     for (place, words) in [
         (4, &[299, 2080][..]),
@@ -314,7 +314,7 @@ stream_tests!(Asked {
     seeds: 20_000,
     with_chosen: true,
     order: &[1, 2, 11, 3, 4, 5, 6, 9],
-    admitted_since: &[Edition::Two],
+    admitted_since: &[Edition::Two, Edition::Three],
     least_of_3: 170,
     sum: 13_955_522_561_190_928_816,
 });

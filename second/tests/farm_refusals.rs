@@ -61,17 +61,18 @@ fn ten_words_are_due_for_edition_1() {
 #[test]
 fn refusal_1_for_uneven_bytes_and_other_editions() {
     no_job_of_lengths(&SOUND, [45, 46, 47, 165, 166, 167, 169, 170, 171]);
-    for edition in [0, 3, 5, -4, 260, 0x0400_0000, i32::MIN, i32::MAX] {
+    for edition in [0, 5, 6, -4, 260, 0x0400_0000, i32::MIN, i32::MAX] {
         refused_with(&[(0, edition)], (1, 0));
         refused_with(&[(0, edition), (10, 0), (4, 431)], (1, 0));
     }
 }
 
-/// The same words as edition 1 or 2 have no rows, which is at fault at 8.
+/// The same words as edition 1, 2 or 3 have no rows, which is at fault at 8.
 #[test]
 fn word_0_chooses_the_limits() {
     refused_with(&[(0, 1)], (2, 8));
     refused_with(&[(0, 2)], (2, 8));
+    refused_with(&[(0, 3)], (2, 8));
 }
 
 #[test]
@@ -201,7 +202,7 @@ fn refusal_6_for_each_value() {
 fn refusal_9_comes_last() {
     let table = [
         (&[][..], (9, 1)),
-        (&[(0, 3)], (1, 0)),
+        (&[(0, 5)], (1, 0)),
         (&[(10, 4)], (2, 10)),
         (&[(4, 371)], (11, 4)),
         (&[(2, 2)], (3, 44)),

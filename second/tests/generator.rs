@@ -422,7 +422,7 @@ stream_tests!(Asked {
     seeds: 8_000,
     with_chosen: false,
     order: &[1, 2, 3, 4, 5, 6, 7, 8, 9],
-    admitted_since: &[Edition::Two],
+    admitted_since: &[Edition::Two, Edition::Three],
     least_of_3: 180,
     sum: 3_699_499_953_521_068_672,
 });

@@ -2,7 +2,7 @@
 
 mod common;
 
-use common::{level_job, pieces, two_lane_job};
+use common::{five_lanes, level_job, pieces, two_lane_job};
 use second::account::{Governing, Stand, State, Traffic};
 use second::job::Job;
 use second::{report, solve, Account};
@@ -23,11 +23,11 @@ fn values(account: &Account) -> [i64; 4] {
 }
 
 fn entries(traffic: &Traffic) -> [u32; 5] {
-    traffic.lanes.map(|lane| lane.entry)
+    five_lanes(traffic).map(|lane| lane.entry)
 }
 
 fn centres(traffic: &Traffic) -> [i64; 5] {
-    traffic.lanes.map(|lane| lane.centre)
+    five_lanes(traffic).map(|lane| lane.centre)
 }
 
 /// Ordinates at stations 0 to 4: 0, 100, 0, -60, 0. The axles are 2 pieces

@@ -1,5 +1,8 @@
 //! 01 "The host and the program": Job A's four lines, and its placements.
 
+mod common;
+
+use common::five_lanes;
 use second::job_a::job_a;
 use second::{report, solve};
 
@@ -39,12 +42,21 @@ fn normal_and_overload_load_both_lanes() {
     let account = solve(&job_a().bytes(), &mut patch).account;
     let normal = account.normal_greatest;
     assert_eq!(normal.set, 0b11);
-    assert_eq!(normal.lanes.map(|lane| lane.entry), [1, 1, 0, 0, 0]);
-    assert_eq!(normal.lanes.map(|lane| lane.centre), [300, 1020, 0, 0, 0]);
+    assert_eq!(five_lanes(&normal).map(|lane| lane.entry), [1, 1, 0, 0, 0]);
+    assert_eq!(
+        five_lanes(&normal).map(|lane| lane.centre),
+        [300, 1020, 0, 0, 0]
+    );
     let overload = account.overload_greatest;
     assert_eq!(overload.set, 0b11);
-    assert_eq!(overload.lanes.map(|lane| lane.entry), [3, 1, 0, 0, 0]);
-    assert_eq!(overload.lanes.map(|lane| lane.centre), [300, 1020, 0, 0, 0]);
+    assert_eq!(
+        five_lanes(&overload).map(|lane| lane.entry),
+        [3, 1, 0, 0, 0]
+    );
+    assert_eq!(
+        five_lanes(&overload).map(|lane| lane.centre),
+        [300, 1020, 0, 0, 0]
+    );
     assert_eq!(patch[..20], [1; 20]);
     assert_eq!(patch[20..], [9, 9]);
 }

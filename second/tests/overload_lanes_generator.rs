@@ -3,12 +3,13 @@
 
 mod common;
 
+use common::five_lanes;
 use common::overload::InLanes;
 use common::streams::{answer_to, reach_all};
 use second::account::Traffic;
 use second::generator::{case, Case, Stream};
 use second::job::Job;
-use second::lanes::lane_count;
+use second::lanes::lanes_of_job;
 use second::loads::{Live, Question};
 use second::store;
 use second::words::words_of;
@@ -17,11 +18,11 @@ use std::collections::BTreeSet;
 /// The streams of the editions with HO.
 const STREAMS: [Stream; 3] = [Stream::One, Stream::Two, Stream::Spans];
 
-/// The job of an accepted case with HO.
+/// The job of an accepted case with HO on one carriageway.
 fn overload_job(case: &Case) -> Option<Job> {
     let accepted = answer_to(case).refusal == 0;
     let job = accepted.then(|| Job::decode(&words_of(&case.job)));
-    job.filter(|job| job.edition.has_overload())
+    job.filter(|job| job.edition.has_overload() && job.second_width().is_none())
 }
 
 fn labels(case: &Case) -> Vec<String> {
@@ -33,7 +34,7 @@ fn labels(case: &Case) -> Vec<String> {
     for question in Question::BOTH {
         let traffic = account.traffic(Live::Overload, question);
         if traffic.value != 0 {
-            let lanes = lane_count(job.width);
+            let lanes = lanes_of_job(&job);
             let of_placement = placement_labels(&InLanes::of(&job, question), traffic);
             labels.extend(within(question, lanes, of_placement));
         }
@@ -60,7 +61,7 @@ fn ho_lane(traffic: &Traffic) -> usize {
 }
 
 fn factors(traffic: &Traffic) -> [i64; 5] {
-    traffic.lanes.map(|lane| lane.factor)
+    five_lanes(traffic).map(|lane| lane.factor)
 }
 
 fn placement_labels(in_lanes: &InLanes, traffic: &Traffic) -> Vec<String> {
@@ -127,7 +128,7 @@ fn stored_cases_reach_all() {
 fn many_cases_have_three_lanes_or_more() {
     for stream in STREAMS {
         let jobs = (0..3000).filter_map(|seed| overload_job(&case(stream, seed)));
-        let wide = jobs.filter(|job| lane_count(job.width) >= 3).count();
+        let wide = jobs.filter(|job| lanes_of_job(job) >= 3).count();
         assert!(wide >= 1000, "{stream:?}: {wide}");
     }
 }

@@ -11,6 +11,7 @@
 
 mod common;
 
+use common::five_lanes;
 use common::overload::old_overload;
 use second::account::Traffic;
 use second::chosen::overload_lanes::{
@@ -38,7 +39,7 @@ fn account(job: &Job) -> Account {
 
 /// The lanes' factors, with `HO` and `NO` for lanes that have none.
 fn marked_factors(traffic: &Traffic) -> [i64; 5] {
-    traffic.lanes.map(|lane| match (lane.entry, lane.factor) {
+    five_lanes(traffic).map(|lane| match (lane.entry, lane.factor) {
         (0, 0) => NO,
         (3 | 4, 0) => HO,
         (1 | 2, 1..) => lane.factor,
@@ -56,7 +57,7 @@ fn has_overload(job: &Job, greatest: Due, least: Due) {
     assert_eq!(shown(&account.overload_greatest), greatest);
     assert_eq!(shown(&account.overload_least), least);
     for traffic in [account.normal_greatest, account.normal_least] {
-        assert_eq!(traffic.lanes.map(|lane| lane.factor), [0; 5]);
+        assert_eq!(five_lanes(&traffic).map(|lane| lane.factor), [0; 5]);
     }
 }
 

@@ -6,7 +6,7 @@ use common::overload::{effect, old_overload, InLanes};
 use second::account::Account;
 use second::generator::{case, Case, Stream};
 use second::job::{Job, SERVICE, ULTIMATE};
-use second::lanes::lane_count;
+use second::lanes::lanes_of_job;
 use second::loads::{Live, Question};
 use second::rows::limit_state;
 use second::words::words_of;
@@ -24,7 +24,7 @@ fn old_traffic(job: &Job, account: &Account, live: Live, question: Question) -> 
 fn normal(job: &Job, question: Question) -> i64 {
     let lanes = InLanes::of(job, question);
     let sums = (0..1_u32 << lanes.hn.len()).map(|set| {
-        let r = [20, 20, 18, 16, 14, 12][set.count_ones() as usize];
+        let r = [20, 20, 18, 16, 14, 12, 11, 11, 11, 11, 11][set.count_ones() as usize];
         let loaded = (0..lanes.hn.len()).filter(|lane| set >> lane & 1 == 1);
         r * loaded.map(|lane| lanes.hn[lane]).sum::<i128>()
     });
@@ -59,7 +59,7 @@ fn moves(name: &str, case: &Case) -> bool {
         moves
     });
     let moves = moved.contains(&true);
-    assert!(!moves || lane_count(job.width) >= 3, "{name}");
+    assert!(!moves || lanes_of_job(&job) >= 3, "{name}");
     moves
 }
 

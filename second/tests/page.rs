@@ -4,19 +4,27 @@ mod common;
 
 use common::{level_job, pieces};
 use second::account::{Account, Governing, Lane, Stand, State, Traffic};
+use second::chosen::edition_3::lanes_job;
 use second::report::page;
 use second::solve::account_of;
+
+/// These lanes, and unloaded ones past them.
+fn ten_lanes(five: [Lane; 5]) -> [Lane; 10] {
+    let mut lanes = [Lane::default(); 10];
+    lanes[..5].copy_from_slice(&five);
+    lanes
+}
 
 #[test]
 fn every_part_of_an_account_is_told() {
     let traffic = |value, set, lanes: [(u32, i64, i64); 5]| Traffic {
         value,
         set,
-        lanes: lanes.map(|(entry, centre, factor)| Lane {
+        lanes: ten_lanes(lanes.map(|(entry, centre, factor)| Lane {
             entry,
             centre,
             factor,
-        }),
+        })),
     };
     let unloaded = (0, 0, 0);
     let account = Account {
@@ -68,6 +76,8 @@ fn every_part_of_an_account_is_told() {
                 k: 0,
             },
         },
+        first_lanes: 5,
+        second_lanes: 0,
     };
     let expected = "\
 normal greatest 31 N.U
@@ -90,7 +100,91 @@ service none
 ultimate greatest 41 row 32, left out 10, traffic counts, k 1300
 ultimate least -42 row 1, left out 0, traffic left out
 ";
-    assert_eq!(page(5, &account), expected);
+    assert_eq!(page(&account), expected);
+}
+
+/// With two carriageways the second's lanes are numbered on, and each centre is over its
+/// own carriageway's lanes.
+#[test]
+fn two_carriageways_are_told_apart() {
+    let mut normal = Traffic {
+        value: 51,
+        set: 0b10100,
+        ..Traffic::default()
+    };
+    normal.lanes[2].entry = 1;
+    normal.lanes[2].centre = 2201;
+    normal.lanes[4].entry = 2;
+    normal.lanes[4].centre = 1100;
+    let mut overload = Traffic {
+        value: 52,
+        set: 0b1000011000,
+        ..Traffic::default()
+    };
+    overload.lanes[3].entry = 3;
+    overload.lanes[3].centre = 601;
+    overload.lanes[4].entry = 1;
+    overload.lanes[4].factor = 11;
+    overload.lanes[9].entry = 4;
+    let account = Account {
+        normal_greatest: normal,
+        overload_greatest: overload,
+        first_lanes: 3,
+        second_lanes: 2,
+        ..Account::default()
+    };
+    let expected = "\
+normal greatest 51 N.U
+  lanes 3 + 2, set 20
+  lane 3: HN raising, centre 2201/3 cm, factor 0
+  lane 5: HN lowering, centre 1100/2 cm, factor 0
+normal least 0 N.U
+  lanes 3 + 2, set 0
+overload greatest 52 N.U
+  lanes 3 + 2, set 536
+  lane 4: HO raising, centre 601/2 cm, factor 0
+  lane 5: HN raising, centre 0/2 cm, factor 11
+  lane 10: HO lowering, centre 0/2 cm, factor 0
+overload least 0 N.U
+  lanes 3 + 2, set 0
+raising pair at station 0, side left
+lowering pair at station 0, side left
+service none
+ultimate none
+";
+    assert_eq!(page(&account), expected);
+}
+
+/// So it is across the median. In lanes of 400 cm, over a line of 8 along 5 m, the three
+/// at 500 tie: 16 * 3 * 500 * 18400 * 3 / 800 = 1656000, and HO in one of them gives
+/// (20 * 31200 + 38 * 18400) * 500 * 3 / 800 = 2481000. For least every lane gives 0.
+#[test]
+fn of_equal_lanes_on_both_sides_the_first_is_shown() {
+    let mut job = lanes_job(&[0, 500], &[500, 500, 0]);
+    job.pieces = pieces(&[(8, 8)]);
+    job.rows.clear();
+    let expected = "\
+normal greatest 1656000 N.U
+  lanes 2 + 3, set 14
+  lane 2: HN raising, centre 1100/2 cm, factor 0
+  lane 3: HN raising, centre 450/3 cm, factor 0
+  lane 4: HN raising, centre 1650/3 cm, factor 0
+normal least 0 N.U
+  lanes 2 + 3, set 0
+overload greatest 2481000 N.U
+  lanes 2 + 3, set 14
+  lane 2: HO raising, centre 1100/2 cm, factor 0
+  lane 3: HN raising, centre 450/3 cm, factor 20
+  lane 4: HN raising, centre 1650/3 cm, factor 18
+overload least 0 N.U
+  lanes 2 + 3, set 1
+  lane 1: HO raising, centre 300/2 cm, factor 0
+raising pair at station -1, side right
+lowering pair at station -1, side left
+service none
+ultimate none
+";
+    assert_eq!(page(&account_of(&job)), expected);
 }
 
 /// The pair is as good at station 1, from either side, as at 2. Lane 1 is as
@@ -129,5 +223,5 @@ service greatest 0 row 1, left out 0, traffic counts
 service least 0 row 1, left out 0, traffic counts
 ultimate none
 ";
-    assert_eq!(page(5, &account_of(&job)), expected);
+    assert_eq!(page(&account_of(&job)), expected);
 }

@@ -132,6 +132,41 @@ fn the_deck_job_prints_its_lines() {
     prints(&beat, "not beaten in 500 tries\n");
 }
 
+const MOTORWAY_JOB_LINES: &str = "\
+normal greatest 83867801 least -11451558
+overload greatest 148202927 least -21401111
+service greatest 279231531350 row 1 least 112240396700 row 1
+ultimate greatest 421516390500 row 2 least 121138333500 row 2
+";
+
+/// The figures are worked out in motorway_job.rs. Its header is 13 words, and 13 + 28 + 29 +
+/// 20 + 6 + 8 + 12 = 116 are due.
+#[test]
+fn the_motorway_job_prints_its_lines() {
+    let output = second(&["motorway-job"], Stdio::null());
+    assert_eq!(output.status.code(), Some(0));
+    let job = output.stdout;
+    prints(&second_on("motorway-job", &job), MOTORWAY_JOB_LINES);
+    prints(&second_on("motorway-front", &job[..48]), "refused 1 at 0\n");
+    let header = second_on("motorway-header", &job[..52]);
+    prints(&header, "refused 3 at 116\n");
+    let beat = command_on(&["beat", "1", "500"], "motorway-job-beat", &job);
+    prints(&beat, "not beaten in 500 tries\n");
+}
+
+/// The longest job there is, of 16572 bytes, is read whole.
+#[test]
+fn the_longest_job_is_answered() {
+    let job = second::chosen::edition_3::longest().bytes();
+    assert_eq!(job.len(), 16_572);
+    let answer = second::solve(&job, &mut [0; 1000]);
+    assert_eq!(answer.refusal, 0);
+    prints(
+        &second_on("longest-job", &job),
+        &second::report::report(&answer),
+    );
+}
+
 #[test]
 fn job_a_prints_its_four_lines() {
     prints(&second_on("job-a", &job_a()), JOB_A_LINES);
@@ -152,11 +187,11 @@ fn a_directory_as_standard_input_is_an_error() {
     assert!(message.starts_with("second: cannot read standard input"));
 }
 
-/// Job A has 85 words. Were all 20001 bytes read, their count would not be
-/// divisible by 4 and the refusal would be 1; the 16384 read are 4096 words.
+/// Job A has 85 words. Were all 40001 bytes read, their count would not be
+/// divisible by 4 and the refusal would be 1; the 32768 read are 8192 words.
 #[test]
-fn only_16384_bytes_are_read() {
-    for length in [16384, 16385, 20000, 20001] {
+fn only_32768_bytes_are_read() {
+    for length in [16384, 20000, 32768, 32769, 40000, 40001] {
         let mut job = job_a();
         job.resize(length, 0);
         prints(
@@ -165,8 +200,11 @@ fn only_16384_bytes_are_read() {
         );
     }
     let mut job = job_a();
-    job.resize(16383, 0);
-    prints(&second_on("16383-bytes", &job), "refused 1 at 0\n");
+    for length in [16383, 16385, 32767] {
+        job.resize(length, 0);
+        let name = format!("{length}-bytes");
+        prints(&second_on(&name, &job), "refused 1 at 0\n");
+    }
 }
 
 /// Job A without its ultimate row: word 8 is R, and rows are at words 71 to 78.
@@ -206,7 +244,7 @@ ultimate greatest 0 row 1 least 0 row 1
 #[test]
 fn account_prints_the_page_of_the_account() {
     let account = second::solve(&job_a(), &mut [0; 20]).account;
-    let page = second::report::page(2, &account);
+    let page = second::report::page(&account);
     prints(&command_on(&["account"], "account", &job_a()), &page);
     prints(&second(&["account"], Stdio::null()), "refused 1 at 0\n");
 }
@@ -338,7 +376,7 @@ fn unknown_arguments_are_a_usage_error() {
         &["generate", "7", "1", "."],
         &["generate", "1", "-1", "2", "."],
         &["generate", "0", "1", "1", "."],
-        &["generate", "3", "1", "1", "."],
+        &["generate", "5", "1", "1", "."],
         &["generate", "Spans", "1", "1", "."],
         &["generate", "4294967300", "1", "1", "."],
         &["farm-job", "more"],

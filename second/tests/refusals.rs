@@ -50,7 +50,7 @@ fn refusal_1_for_byte_counts_not_divisible_by_4() {
 
 #[test]
 fn refusal_1_for_another_edition() {
-    for edition in [0, 3, -1, 257, 0x0100_0000, i32::MIN, i32::MAX] {
+    for edition in [0, 5, -1, 257, 0x0100_0000, i32::MIN, i32::MAX] {
         refused_with(&[(0, edition)], (1, 0));
         // Ten words and no more, with faults of refusal 2 as well.
         let header = &bytes_of(&changed(&SOUND, &[(0, edition), (1, 3), (9, -1)]))[..40];

@@ -7,6 +7,7 @@ use common::overload::{additional_sum, Reading};
 use common::{level_job, pieces, two_lane_job};
 use second::account::{Account, State};
 use second::arch_job::arch_job;
+use second::chosen::edition_3;
 use second::combination::{Combination, Part};
 use second::deck_job::deck_job;
 use second::edition::Edition;
@@ -14,31 +15,37 @@ use second::farm_job::farm_job;
 use second::generator::{sound_job, Stream};
 use second::job::Job;
 use second::job_a::job_a;
-use second::lanes::{breakpoint_centres, centre_limits, lane_count, transverse_ordinate};
+use second::lanes::{
+    breakpoint_centres, centre_limits, common_denominator, lane_counts, lanes_of_job,
+    transverse_ordinate,
+};
 use second::line::{
     ordinate, pair_ordinates, pieces_between_axles, stations, uniform_effect, Stand,
 };
 use second::loads::{reduction, Direction, Element, Live, Question, Side};
+use second::motorway_job::motorway_job;
 use second::rng::Rng;
 use second::sampler::{first_beating, Beating, Sampler};
 use second::solve::account_of;
 use second::traffic::lanes_of;
 use std::collections::BTreeSet;
 
-/// The others half as often as edition 1.
-const STREAMS: [Stream; 5] = [
+/// The others half as often as editions 1 and 3.
+const STREAMS: [Stream; 7] = [
     Stream::One,
     Stream::One,
     Stream::Four,
     Stream::Two,
     Stream::Spans,
+    Stream::Three,
+    Stream::Three,
 ];
 
 #[test]
 fn every_draw_is_lawful() {
     for seed in 0..400 {
         let mut rng = Rng::new(seed);
-        let job = sound_job(&mut rng, STREAMS[seed as usize % 5]);
+        let job = sound_job(&mut rng, STREAMS[seed as usize % STREAMS.len()]);
         let sampler = Sampler::new(&job);
         for live in Live::BOTH {
             for question in Question::BOTH {
@@ -51,11 +58,22 @@ fn every_draw_is_lawful() {
     }
 }
 
+/// With HO in each of two lanes to the left of a median and of three to its right, as below.
+#[test]
+fn draws_reach_every_assignment_on_two_sides() {
+    let job = edition_3::level_job(600, 1000);
+    every_assignment_is_drawn(&job);
+}
+
 /// With HO in each of five lanes, 1 + 4 + 12 + 24 + 24 assignments to sets of the others.
 #[test]
 fn draws_reach_every_assignment() {
-    let job = level_job(2000, 50, vec![1000; 41]);
-    let sampler = Sampler::new(&job);
+    every_assignment_is_drawn(&level_job(2000, 50, vec![1000; 41]));
+}
+
+#[track_caller]
+fn every_assignment_is_drawn(job: &Job) {
+    let sampler = Sampler::new(job);
     let mut rng = Rng::new(1);
     for question in Question::BOTH {
         let drawn = (0..30_000).map(|_| {
@@ -73,7 +91,7 @@ fn draws_reach_every_assignment() {
 #[test]
 fn right_reports_are_not_beaten() {
     let level = level_job(2000, 50, vec![1000; 41]);
-    let examples = [job_a(), farm_job(), arch_job(), deck_job()];
+    let examples = [job_a(), farm_job(), arch_job(), deck_job(), motorway_job()];
     for job in examples.into_iter().chain([two_lane_job(), level]) {
         assert_eq!(first_beating(&job, &account_of(&job), 1, 4000), None);
     }
@@ -101,8 +119,9 @@ fn values_short_by_1_are_beaten() {
         |account| account.ultimate.least.value += 1,
     ];
     let sound_jobs =
-        (0..120).map(|seed| sound_job(&mut Rng::new(seed), STREAMS[seed as usize % 5]));
-    let jobs = sound_jobs.chain([job_a(), two_lane_job(), farm_job(), arch_job(), deck_job()]);
+        (0..120).map(|seed| sound_job(&mut Rng::new(seed), STREAMS[seed as usize % STREAMS.len()]));
+    let examples = [job_a(), farm_job(), arch_job(), deck_job(), motorway_job()];
+    let jobs = sound_jobs.chain([two_lane_job()]).chain(examples);
     for (job_number, job) in jobs.enumerate() {
         let account = account_of(&job);
         for (number, change) in changes.iter().enumerate() {
@@ -197,6 +216,10 @@ enum Sham {
     ExchangesTheSpans,
     TakesTheSpanByDirection,
     RoundsTheFactorDown,
+    LeavesTheSecondSideEmpty,
+    LoadsOneSideOnly,
+    CountsSixLanesAt10,
+    GivesTheSixthAdditionalLane10,
 }
 
 /// A farm bridge's OW, and its rows of group 2C with the factor of their others.
@@ -305,7 +328,7 @@ fn sham_value(job: &Job, sham: Sham, live: Live, question: Question) -> i64 {
     if live == Live::Overload && job.edition == Edition::Four {
         return 0;
     }
-    let lanes = lane_count(job.width);
+    let lanes = lanes_of_job(job);
     let of_element = |element: Element| -> Vec<i128> {
         let in_direction = |direction| sham_longitudinal(job, sham, question, element, direction);
         let raising = in_direction(Direction::Raising);
@@ -314,14 +337,14 @@ fn sham_value(job: &Job, sham: Sham, live: Live, question: Question) -> i64 {
             _ => in_direction(Direction::Lowering),
         };
         let in_lane = |lane: usize| {
-            let limits = centre_limits(job.width, lane);
+            let limits = centre_limits(job, lane);
             let centres = match sham {
                 Sham::TriesLimitsOnlyForCentres => vec![*limits.start(), *limits.end()],
                 _ => breakpoint_centres(job, lane),
             };
             let ordinates = centres
                 .into_iter()
-                .map(|centre| i128::from(transverse_ordinate(job, centre)));
+                .map(|centre| i128::from(transverse_ordinate(job, lane, centre)));
             furthest(
                 question,
                 ordinates.flat_map(|t| [t * raising, t * lowering]),
@@ -331,7 +354,10 @@ fn sham_value(job: &Job, sham: Sham, live: Live, question: Question) -> i64 {
     };
     let (hn, ho) = (of_element(Element::Hn), of_element(Element::Ho));
     let all = (1_u32 << lanes) - 1;
+    let first_side = (1_u32 << lane_counts(job)[0]) - 1;
     let may_load = |set: &u32| match sham {
+        Sham::LeavesTheSecondSideEmpty => set & !first_side == 0,
+        Sham::LoadsOneSideOnly => set & first_side == 0 || set & !first_side == 0,
         Sham::LoadsLane1Only => *set == 1,
         Sham::LoadsEveryLane => *set == all,
         Sham::NeverLoadsTheFifthLane => set & 0b10000 == 0,
@@ -344,7 +370,13 @@ fn sham_value(job: &Job, sham: Sham, live: Live, question: Question) -> i64 {
             let sets = (0..=all).filter(may_load);
             furthest(
                 question,
-                sets.map(|set| i128::from(reduction(set)) * hn_sum(set)),
+                sets.map(|set| {
+                    let r = match sham {
+                        Sham::CountsSixLanesAt10 if set.count_ones() >= 6 => 10,
+                        _ => reduction(set),
+                    };
+                    i128::from(r) * hn_sum(set)
+                }),
             )
         }
         Live::Overload => {
@@ -358,24 +390,38 @@ fn sham_value(job: &Job, sham: Sham, live: Live, question: Question) -> i64 {
                         Sham::ReducesTheHoElement => reduction(others | 1 << lane),
                         _ => 20,
                     };
-                    let additional = lanes_of(others).map(|lane| hn[lane]).collect();
-                    i128::from(ho_r) * ho[lane]
+                    let additional: Vec<i128> = lanes_of(others).map(|lane| hn[lane]).collect();
+                    let too_little = match sham {
+                        Sham::GivesTheSixthAdditionalLane10 => sixth(question, &additional),
+                        _ => 0,
+                    };
+                    i128::from(ho_r) * ho[lane] - too_little
                         + additional_sum(sham_reading(sham), question, additional)
                 }),
             )
         }
     };
-    let n_times_g = lanes as i128 * i128::from(job.spacing);
+    let denominator = i128::from(common_denominator(job));
     let twentieths = match job.edition {
         Edition::Four => 17,
         _ => 20,
     };
-    let (dividend, divisor) = (3 * sum, 800_000 * n_times_g);
+    let (dividend, divisor) = (3 * sum, 800_000 * denominator);
     let effect = match sham {
         Sham::TakesTheShareAfterRounding => question.round(dividend, divisor) * twentieths / 20,
         _ => question.round(dividend * twentieths, divisor * 20),
     };
     i64::try_from(effect).unwrap()
+}
+
+/// The sixth furthest of these effects; 0 where there are fewer.
+fn sixth(question: Question, effects: &[i128]) -> i128 {
+    let mut effects = effects.to_vec();
+    effects.sort_unstable();
+    if question == Question::Greatest {
+        effects.reverse();
+    }
+    effects.get(5).copied().unwrap_or(0)
 }
 
 fn sham_reading(sham: Sham) -> Reading {
@@ -434,7 +480,8 @@ fn sham_row(
 
 fn sham_part(job: &Job, sham: Sham, part: Part, question: Question) -> i64 {
     let effect = job.effects[part.effect - 1];
-    let newtons = effect.value * if job.edition == Edition::Two { 1 } else { 1000 };
+    let in_newtons = [Edition::Two, Edition::Three].contains(&job.edition);
+    let newtons = effect.value * if in_newtons { 1 } else { 1000 };
     let low_half = newtons.rem_euclid(1 << 32);
     let counted = match sham {
         Sham::DropsTheHighHalf => low_half,
@@ -488,7 +535,9 @@ fn the_sham_kernel_is_right_where_it_overlooks_nothing() {
 fn are_beaten(stream: Stream, shams: &[Sham]) {
     for &sham in shams {
         let mut short = 0;
-        for seed in 0..300 {
+        // Ten lanes take their time.
+        let seeds = if stream == Stream::Three { 80 } else { 300 };
+        for seed in 0..seeds {
             let job = sound_job(&mut Rng::new(seed), stream);
             let found = sham_account(&job, sham);
             if !falls_short(&found, &account_of(&job)) {
@@ -532,6 +581,20 @@ fn sham_kernels_of_additional_lanes_are_beaten() {
     for stream in [Stream::One, Stream::Two, Stream::Spans] {
         are_beaten(stream, &shams);
     }
+}
+
+#[test]
+fn sham_kernels_of_two_carriageways_are_beaten() {
+    let shams = [
+        Sham::LeavesTheSecondSideEmpty,
+        Sham::LoadsOneSideOnly,
+        Sham::CountsSixLanesAt10,
+        Sham::GivesTheSixthAdditionalLane10,
+        Sham::LoadsEveryLane,
+        Sham::TriesLimitsOnlyForCentres,
+        Sham::LeavesAnAdditionalLaneOut,
+    ];
+    are_beaten(Stream::Three, &shams);
 }
 
 #[test]

@@ -24,6 +24,7 @@ fn lowering_piece() -> Job {
             right: -10,
         }],
         transverse: vec![-1000; 7],
+        second_transverse: vec![],
         effects: vec![],
         rows: vec![Row {
             state: SERVICE,
@@ -56,7 +57,7 @@ fn fill_factors(fills: &[i64]) -> Vec<i64> {
 
 /// Limits of a Job A lane's centre, from n-ths of a cm to whole cm.
 fn centre_limits_in_cm(lane: usize) -> Vec<i64> {
-    let limits = centre_limits(720, lane);
+    let limits = centre_limits(&job_a(), lane);
     assert!(limits.start() % 2 == 0 && limits.end() % 2 == 0);
     vec![limits.start() / 2, limits.end() / 2]
 }
@@ -65,7 +66,7 @@ fn best_ordinate(lane: usize) -> i64 {
     let job = job_a();
     let ordinates = breakpoint_centres(&job, lane)
         .into_iter()
-        .map(|centre| transverse_ordinate(&job, centre));
+        .map(|centre| transverse_ordinate(&job, lane, centre));
     ordinates.max().unwrap()
 }
 

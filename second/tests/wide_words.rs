@@ -9,9 +9,10 @@ use common::train_case;
 use second::arch_job::arch_job;
 use second::farm_job::farm_job;
 use second::job_a::job_a;
+use second::motorway_job::motorway_job;
 use second::solve;
 use second::train::{rate, TrainCase};
-use second::wide_words::{wide_words, Ordinates};
+use second::wide_words::{wide_words, Fault, Ordinates};
 use second::words::{bytes_of, changed, words_of, Change};
 
 const IN_LINE: [usize; 6] = [10, 11, 30, 31, 48, 49];
@@ -98,12 +99,38 @@ fn each_fault_is_refused_with_4_at_its_place() {
 }
 
 /// The same for the example farm job, whose line has the words from 11 on and
-/// whose nine transverse ordinates 31 to 39; and for the arch job, with its line
-/// from 12 on and its nineteen transverse ordinates at 52 to 70.
+/// whose nine transverse ordinates 31 to 39; for the arch job, with its line
+/// from 12 on and its nineteen transverse ordinates at 52 to 70; and for the motorway
+/// job, with its line from 13 on, its first carriageway's ordinates at 41 to 69 and
+/// its second's at 70 to 89.
 #[test]
 fn each_fault_of_another_edition_is_refused_with_4_at_its_place() {
     hold_faults_and_extremes(&farm_job().words(), 11, 39);
     hold_faults_and_extremes(&arch_job().words(), 12, 70);
+    hold_faults_and_extremes(&motorway_job().words(), 13, 89);
+}
+
+/// With two carriageways an ordinate of the line is wide past 500, and the last of the
+/// first carriageway is a lower place than the first of the second.
+#[test]
+fn the_faults_of_two_carriageways() {
+    let faults = Ordinates::of_job(&motorway_job().words()).faults();
+    let has = |place: usize, changes: &[Change]| {
+        let found = |fault: &Fault| fault.place == place && fault.changes == changes;
+        faults.iter().any(found)
+    };
+    for (place, word) in [
+        (13, 501),
+        (40, -501),
+        (41, 1001),
+        (69, 1001),
+        (70, -1001),
+        (89, 1001),
+    ] {
+        assert!(has(place, &[(place, word)]), "{place}");
+    }
+    assert!(has(69, &[(69, 1001), (70, 65541)]));
+    assert!(has(40, &[(40, 501), (89, 65541)]));
 }
 
 #[track_caller]

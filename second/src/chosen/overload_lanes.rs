@@ -88,14 +88,10 @@ fn jobs() -> Vec<Job> {
 /// Lanes of 400 cm, whose centres, from 150 to 250 cm into them, all have the lane's
 /// ordinate; the line is 8 over 5 m, then -6 over 5 m; two rows with traffic.
 pub fn lanes_job(edition: Edition, ordinates: &[i64]) -> Job {
-    let mut transverse = vec![0; 8 * ordinates.len() + 1];
-    for (lane, &ordinate) in ordinates.iter().enumerate() {
-        transverse[8 * lane + 3..=8 * lane + 5].fill(ordinate);
-    }
     let further_header = vec![0; edition.header_words() - Edition::One.header_words()];
     Job {
         width: 400 * ordinates.len() as i64,
-        transverse,
+        transverse: lane_ordinates(ordinates),
         pieces: vec![level_piece(8), level_piece(-6)],
         rows: vec![
             Row::new(SERVICE, LIVE_NORMAL, 1350, 0),
@@ -103,6 +99,15 @@ pub fn lanes_job(edition: Edition, ordinates: &[i64]) -> Job {
         ],
         ..bare_job(edition, further_header)
     }
+}
+
+/// The transverse ordinates of such lanes.
+pub(super) fn lane_ordinates(ordinates: &[i64]) -> Vec<i64> {
+    let mut transverse = vec![0; 8 * ordinates.len() + 1];
+    for (lane, &ordinate) in ordinates.iter().enumerate() {
+        transverse[8 * lane + 3..=8 * lane + 5].fill(ordinate);
+    }
+    transverse
 }
 
 /// The ordinates' every order, in edition 1 and in edition 2 by turns.
@@ -154,15 +159,20 @@ fn with_spans() -> Vec<Job> {
         .collect()
 }
 
-/// Lanes over 5 along 20 m, then from 0 to -10 along 5 m: the long part is the further
+/// A line of 5 along 20 m, then from 0 to -10 along 5 m: the long part is the further
 /// one for HN, the high one for HO.
-pub fn uneven_line_job(edition: Edition, ordinates: &[i64]) -> Job {
+pub(super) fn uneven_line() -> Vec<Piece> {
     let fall = Piece {
         left: 0,
         right: -10,
     };
+    [vec![level_piece(5); 4], vec![fall]].concat()
+}
+
+/// Lanes over the uneven line.
+pub fn uneven_line_job(edition: Edition, ordinates: &[i64]) -> Job {
     Job {
-        pieces: [vec![level_piece(5); 4], vec![fall]].concat(),
+        pieces: uneven_line(),
         ..lanes_job(edition, ordinates)
     }
 }

@@ -4,6 +4,9 @@
 use super::draws::sufficient_patch;
 use super::edition_1::{name_an_effect_twice, return_to_a_record};
 use super::edition_2::spoil_a_further_word;
+use super::edition_3::{
+    spoil_the_header_of_two, spoil_the_ordinates_of_two, spoil_the_second_section,
+};
 use super::edition_4::{spoil_an_effect_word, take_a_width_outside, widen_to_no_band};
 use super::line::give_a_piece_two_signs;
 use super::spans::{spans_in_another_edition, spoil_the_spans};
@@ -20,7 +23,7 @@ use crate::words::{bytes_of, WORD_BYTES};
 /// The refusals that a job of an edition can meet.
 pub fn faults_of(edition: Edition) -> &'static [u64] {
     match edition {
-        Edition::One | Edition::Two => &[1, 2, 3, 4, 5, 6, 7, 8, 9],
+        Edition::One | Edition::Two | Edition::Three => &[1, 2, 3, 4, 5, 6, 7, 8, 9],
         Edition::Four => &[1, 2, 11, 3, 4, 5, 6, 9],
     }
 }
@@ -51,7 +54,7 @@ pub fn damaged(rng: &mut Rng, stream: Stream, faults: &[u64]) -> Case {
     if faults.contains(&6) {
         match edition {
             Edition::One => spoil_a_factor_word(rng, &mut words, &sections, edition),
-            Edition::Two => {
+            Edition::Two | Edition::Three => {
                 // Often two words, in one section or in two.
                 for _ in 0..rng.pick(&[1, 1, 2]) {
                     spoil_a_factor_word(rng, &mut words, &sections, edition);
@@ -61,13 +64,22 @@ pub fn damaged(rng: &mut Rng, stream: Stream, faults: &[u64]) -> Case {
         }
     }
     if faults.contains(&5) {
-        give_a_piece_two_signs(rng, &mut words[sections.line.clone()]);
+        let line = &mut words[sections.line.clone()];
+        give_a_piece_two_signs(rng, line, edition.most_in_line());
     }
     if faults.contains(&4) {
-        spoil_an_ordinate(rng, &mut words, &sections);
+        if edition == Edition::Three {
+            spoil_the_ordinates_of_two(rng, &mut words, &sections);
+        } else {
+            spoil_an_ordinate(rng, &mut words, &sections);
+        }
     }
     if faults.contains(&3) {
-        spoil_the_count(rng, &mut words, edition);
+        if edition == Edition::Three && rng.one_in(3) {
+            spoil_the_second_section(rng, &mut words, &sections);
+        } else {
+            spoil_the_count(rng, &mut words, edition);
+        }
     }
     if faults.contains(&11) && rng.one_in(3) {
         widen_to_no_band(rng, &mut words);
@@ -101,7 +113,8 @@ fn damage_job(rng: &mut Rng, job: &mut Job, faults: &[u64]) {
 }
 
 /// Spoils a word of the header or more: in edition 2 often one of its last two, with
-/// spans by sign often what is said of the spans.
+/// spans by sign often what is said of the spans, with two carriageways often the second
+/// width.
 fn spoil_the_header(rng: &mut Rng, words: &mut [i32], stream: Stream) {
     match stream {
         Stream::One | Stream::Four => spoil_a_header_word(rng, words, stream),
@@ -120,11 +133,12 @@ fn spoil_the_header(rng: &mut Rng, words: &mut [i32], stream: Stream) {
                 spoil_a_header_word(rng, words, stream);
             }
         }
+        Stream::Three => spoil_the_header_of_two(rng, words),
     }
 }
 
 /// Too few bytes for the header, a byte count that 4 does not divide, or another
-/// word 0. Where that is 2, edition 2's tests are the ones that apply.
+/// word 0. Where that is 2 or 3, that edition's tests are the ones that apply.
 fn make_no_job(rng: &mut Rng, bytes: &mut Vec<u8>, edition: Edition) {
     match rng.below(3) {
         0 => bytes.truncate(too_few_bytes(rng, edition)),
@@ -137,6 +151,7 @@ fn make_no_job(rng: &mut Rng, bytes: &mut Vec<u8>, edition: Edition) {
             let number = match edition {
                 Edition::One => rng.pick(&[0, 2, -1, 256, i32::MIN, any]),
                 Edition::Two => rng.pick(&[0, 3, 5, -2, 258, i32::MIN, any]),
+                Edition::Three => rng.pick(&[0, 5, -3, 259, i32::MIN, any]),
                 Edition::Four => rng.pick(&[0, 2, 3, 5, -4, 260, i32::MIN, any]),
             };
             bytes[..WORD_BYTES].copy_from_slice(&number.to_le_bytes());
@@ -152,6 +167,7 @@ fn too_few_bytes(rng: &mut Rng, edition: Edition) -> usize {
         Edition::One => any,
         // Often as many words as another edition's header has, or one short.
         Edition::Two => rng.pick(&[any, 40, 43, 44, 44, 47]),
+        Edition::Three => rng.pick(&[any, 40, 44, 47, 48, 48, 49, 51]),
         // Often one word short, as a header of edition 1 would be.
         Edition::Four => rng.pick(&[any, 40, 41, 42, 43]),
     }

@@ -5,4 +5,4 @@ mod faults;
 mod sound;
 
 pub(super) use faults::{spoil_a_further_word, spoil_a_wide_effect};
-pub(super) use sound::sound_job;
+pub(super) use sound::{extreme_job, sound_job};

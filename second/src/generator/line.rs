@@ -167,10 +167,11 @@ fn joined_ordinates(
     ordinates
 }
 
-/// Gives a piece of a line's section one ordinate above 0 and one below.
-pub(super) fn give_a_piece_two_signs(rng: &mut Rng, line: &mut [i32]) {
+/// Gives a piece of a line's section one ordinate above 0 and one below, at most so far
+/// away from it.
+pub(super) fn give_a_piece_two_signs(rng: &mut Rng, line: &mut [i32], most: i32) {
     let at = WORDS_PER_PIECE * first_last_or_any(rng, line.len() / WORDS_PER_PIECE);
     let side = sign(rng) as i32;
-    line[at] = side * rng.pick(&[1, 5000, 17]);
-    line[at + 1] = -side * rng.pick(&[1, 5000, 17]);
+    line[at] = side * rng.pick(&[1, most, 17]);
+    line[at + 1] = -side * rng.pick(&[1, most, 17]);
 }

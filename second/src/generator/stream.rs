@@ -12,11 +12,19 @@ pub enum Stream {
     Two,
     /// Edition 2 with spans by sign.
     Spans,
+    /// Edition 3, with all kinds.
+    Three,
 }
 
 impl Stream {
     /// In the order in which the requests of 02 bring them.
-    pub const ALL: [Stream; 4] = [Stream::One, Stream::Four, Stream::Two, Stream::Spans];
+    pub const ALL: [Stream; 5] = [
+        Stream::One,
+        Stream::Four,
+        Stream::Two,
+        Stream::Spans,
+        Stream::Three,
+    ];
 
     /// The edition of its sound jobs.
     pub fn edition(self) -> Edition {
@@ -24,6 +32,7 @@ impl Stream {
             Stream::One => Edition::One,
             Stream::Four => Edition::Four,
             Stream::Two | Stream::Spans => Edition::Two,
+            Stream::Three => Edition::Three,
         }
     }
 
@@ -34,6 +43,7 @@ impl Stream {
             Stream::Four => "4",
             Stream::Two => "2",
             Stream::Spans => "spans",
+            Stream::Three => "3",
         }
     }
 

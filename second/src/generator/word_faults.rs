@@ -10,8 +10,8 @@ use crate::refusals::{dynamic_value_limits, later_header_word_limits};
 use crate::rng::Rng;
 use crate::sections::{self, Sections, WORDS_PER_RECORD, WORDS_PER_ROW};
 
-/// Spoils a word of the effects, rows or records of a job that has them all; of
-/// edition 2's effects one or more words of one.
+/// Spoils a word of the effects, rows or records of a job that has them all; of effects
+/// of two halves one or more words of one.
 pub(super) fn spoil_a_factor_word(
     rng: &mut Rng,
     words: &mut [i32],
@@ -29,7 +29,8 @@ pub(super) fn spoil_a_factor_word(
     let place = section.start + first_last_or_any(rng, section.len());
     let within = place - section.start;
     let words_per_effect = edition.words_per_effect();
-    if edition == Edition::Two && section == &sections.effects {
+    let in_halves = [Edition::Two, Edition::Three].contains(&edition);
+    if in_halves && section == &sections.effects {
         let effect = place - within % words_per_effect;
         spoil_a_wide_effect(rng, &mut words[effect..][..words_per_effect]);
         return;
@@ -95,6 +96,16 @@ fn counting_words(edition: Edition) -> &'static [(usize, i64, i64)] {
             (sections::ROWS, 1, 32),
             (sections::RECORDS, 0, 512),
         ],
+        Edition::Three => &[
+            (sections::PIECES, 1, 20),
+            (sections::SPACING, 10, 50),
+            (sections::WIDTH, 300, 2079),
+            (sections::SECOND_WIDTH, 300, 2079),
+            (sections::SECOND_WIDTH, 300, 2079),
+            (sections::EFFECTS, 0, 16),
+            (sections::ROWS, 1, 32),
+            (sections::RECORDS, 0, 512),
+        ],
         Edition::Four => &[(sections::PIECES, 1, 20), (sections::SPACING, 10, 50)],
     }
 }
@@ -123,7 +134,7 @@ pub(super) fn spoil_a_header_word(rng: &mut Rng, words: &mut [i32], stream: Stre
 fn last_dynamic_kind(stream: Stream) -> i32 {
     match stream {
         Stream::One | Stream::Four | Stream::Two => 3,
-        Stream::Spans => 4,
+        Stream::Spans | Stream::Three => 4,
     }
 }
 

@@ -1,9 +1,9 @@
 //! 02 "Rating trucks": the refusals of a train's call, the line's own first.
 
 use super::{TrainCase, ALL_COUNT, RELIEVING_DROPPED, REPORT_BYTES};
+use crate::edition::Edition;
 use crate::refusals::{
     ordinate_outside, piece_length_lawful, piece_of_two_signs, pieces_lawful, test, Refusal,
-    MOST_IN_LINE,
 };
 use crate::sections::WORDS_PER_PIECE;
 use crate::words::{words_of, WORD_BYTES};
@@ -17,7 +17,8 @@ pub fn refusal(case: &TrainCase) -> Option<Refusal> {
 fn test_all(case: &TrainCase) -> Result<(), Refusal> {
     test(2, argument_outside(case))?;
     let line = words_of(&case.line);
-    test(4, ordinate_outside(&line, MOST_IN_LINE))?;
+    // The limits of a line of edition 1.
+    test(4, ordinate_outside(&line, Edition::One.most_in_line()))?;
     test(5, piece_of_two_signs(&line))?;
     test(10, train_at_fault(case))
 }

@@ -1,12 +1,14 @@
-//! What 01, 02 "Farm bridges", "Effects past a word", "Span by sign" and "Additional
-//! overload lanes" make due for a job, by trying everything that they name: every
-//! station and side, every centre in n-ths of a cm, every lane set, every HO lane with
-//! every lane's factor, every row with every k and every omission. Of the crate only
-//! the shape of an answer is used, so a slip in the solver, or in what the solver and
-//! the checker share, shows beside it.
+//! What 01, 02 "Farm bridges", "Effects past a word", "Span by sign", "Additional
+//! overload lanes" and "Two carriageways" make due for a job, by trying everything that
+//! they name: every station and side, every centre in n-ths of a cm, every lane set,
+//! every HO lane with every lane's factor, every row with every k and every omission. Of
+//! eight lanes or more the factors are not tried in every order but given to the
+//! furthest lanes first. Of the crate only the shape of an answer is used, so a slip in
+//! the solver, or in what the solver and the checker share, shows beside it.
 
 use super::farm_tables::{FIRST_ULTIMATE_ROW, K, LIVE, ROWS, ROW_OF_K};
 use second::account::{Answer, Governing, State};
+use std::cell::OnceCell;
 use std::collections::{BTreeMap, BTreeSet};
 
 /// A call's answer and patch buffer, with all that is due in its place: the
@@ -38,6 +40,12 @@ pub fn due(job: &[u8], before: &[u8], given: &Answer) -> (Answer, Vec<u8>) {
     account.normal_least.value = normal.least;
     account.overload_greatest.value = overload.greatest;
     account.overload_least.value = overload.least;
+    let lanes = job
+        .carriageways()
+        .map(|carriageway| carriageway.lanes as u32);
+    let counts: Vec<u32> = lanes.collect();
+    account.first_lanes = counts[0];
+    account.second_lanes = counts.get(1).copied().unwrap_or(0);
     put_state(&job, 1, [normal, overload], &mut account.service);
     put_state(&job, 2, [normal, overload], &mut account.ultimate);
 
@@ -54,6 +62,8 @@ struct Parts<'a> {
     header: &'a [i64],
     line: &'a [i64],
     transverse: &'a [i64],
+    /// The second carriageway's, where there is one.
+    second: &'a [i64],
     effects: &'a [i64],
     rows: &'a [i64],
     records: &'a [i64],
@@ -63,19 +73,34 @@ impl Parts<'_> {
     /// The sections of as many words as the header calls for.
     fn of(words: &[i64]) -> Parts<'_> {
         let (header, rest) = words.split_at(header_words(words).expect("an edition"));
-        let [line, transverse, effects, rows, _] = section_lengths(header);
+        let [line, transverse, second, effects, rows, _] = section_lengths(header);
         let (line, rest) = rest.split_at(line);
         let (transverse, rest) = rest.split_at(transverse);
+        let (second, rest) = rest.split_at(second);
         let (effects, rest) = rest.split_at(effects);
         let (rows, records) = rest.split_at(rows);
         Parts {
             header,
             line,
             transverse,
+            second,
             effects,
             rows,
             records,
         }
+    }
+
+    /// The carriageways, from the left.
+    fn carriageways(&self) -> impl Iterator<Item = Side<'_>> {
+        let side = |width: i64, transverse| Side {
+            width,
+            lanes: lanes(width),
+            spacing: self.header[3],
+            transverse,
+        };
+        let first = side(self.header[4], self.transverse);
+        let second = has_two_sides(self.header).then(|| side(self.header[12], self.second));
+        [Some(first), second].into_iter().flatten()
     }
 
     /// The records from this one on, each as its three words. One more than
@@ -97,6 +122,7 @@ fn header_words(words: &[i64]) -> Option<usize> {
     match words.first()? {
         1 => Some(10),
         2 => Some(12),
+        3 => Some(13),
         4 => Some(11),
         _ => None,
     }
@@ -106,14 +132,23 @@ fn is_farm_job(header: &[i64]) -> bool {
     header[0] == 4
 }
 
-/// Kind 4, which edition 2 alone has.
+fn has_two_sides(header: &[i64]) -> bool {
+    header[0] == 3
+}
+
+/// Editions 2 and 3.
+fn is_in_newtons(header: &[i64]) -> bool {
+    [2, 3].contains(&header[0])
+}
+
+/// Kind 4, which editions 2 and 3 alone have.
 fn has_spans(header: &[i64]) -> bool {
-    (header[0], header[5]) == (2, 4)
+    is_in_newtons(header) && header[5] == 4
 }
 
 /// Words of an effect's value.
 fn value_words(header: &[i64]) -> usize {
-    1 + usize::from(header[0] == 2)
+    1 + usize::from(is_in_newtons(header))
 }
 
 /// An effect's value in its edition's unit, and how many N·U that is.
@@ -124,14 +159,24 @@ fn value_and_unit(effect: &[i64]) -> (i64, i64) {
     }
 }
 
-fn section_lengths(header: &[i64]) -> [usize; 5] {
+fn section_lengths(header: &[i64]) -> [usize; 6] {
     let [pieces, spacing, width] = [header[2], header[3], header[4]];
     let [effects, rows, records] = [header[7], header[8], header[9]];
-    let spaces = width / spacing + i64::from(width % spacing != 0);
+    let across = |width: i64| width / spacing + i64::from(width % spacing != 0) + 1;
     let effect_words = 1 + value_words(header) as i64;
-    let lengths = [2 * pieces, spaces + 1, effect_words * effects, 4 * rows];
-    let [line, transverse, effects, rows] = lengths.map(|words| words as usize);
-    [line, transverse, effects, rows, 3 * records as usize]
+    [
+        2 * pieces,
+        across(width),
+        if has_two_sides(header) {
+            across(header[12])
+        } else {
+            0
+        },
+        effect_words * effects,
+        4 * rows,
+        3 * records,
+    ]
+    .map(|words| words as usize)
 }
 
 /// The lowest refusal with its lowest place; 11 comes after 2.
@@ -163,6 +208,7 @@ fn refusal(bytes: usize, words: &[i64], patch_bytes: usize) -> Option<(u64, usiz
     let sections = [
         ("line", job.line, 2),
         ("transverse", job.transverse, 1),
+        ("transverse", job.second, 1),
         ("effects", job.effects, 1 + value_words(words)),
         ("rows", job.rows, 4),
         ("records", job.records, 3),
@@ -188,7 +234,8 @@ fn refusal(bytes: usize, words: &[i64], patch_bytes: usize) -> Option<(u64, usiz
         start += section.len();
     }
     if faults.is_empty() {
-        let rows_start = header + job.line.len() + job.transverse.len() + job.effects.len();
+        let lines = job.line.len() + job.transverse.len() + job.second.len();
+        let rows_start = header + lines + job.effects.len();
         for (at, row) in job.rows.chunks(4).enumerate() {
             let chain = job.chain(row[3]);
             let named: BTreeSet<i64> = chain.iter().map(|record| record[0]).collect();
@@ -213,8 +260,8 @@ fn header_word_is_lawful(words: &[i64], place: usize) -> bool {
         2 if word * words[1] > 1000 => return false,
         2 => (1, 1000),
         3 => (10, 50),
-        4 => (300, 2079),
-        5 if words[0] == 2 => (1, 4),
+        4 | 12 => (300, 2079),
+        5 if is_in_newtons(words) => (1, 4),
         5 => (1, 3),
         6 => [(1000, 1300), (0, 0), (0, 5000), (1, 2000)][words[5] as usize - 1],
         10 if has_spans(words) => (1, 2000),
@@ -223,7 +270,7 @@ fn header_word_is_lawful(words: &[i64], place: usize) -> bool {
         7 => (0, 16),
         8 => (1, 32),
         9 => (0, 512),
-        _ if words[0] == 2 => (0, 0),
+        _ if is_in_newtons(words) => (0, 0),
         _ => (1, 3),
     };
     from <= word && word <= to
@@ -234,6 +281,7 @@ fn header_word_is_lawful(words: &[i64], place: usize) -> bool {
 fn limits(header: &[i64], section: &str, at: usize, within: usize, group: &[i64]) -> (i64, i64) {
     let (effects, records) = (header[7], header[9]);
     match (section, within) {
+        ("line", _) if has_two_sides(header) => (-500, 500),
         ("line", _) => (-5000, 5000),
         ("transverse", _) => (-1000, 1000),
         // A word of a value in halves is at fault only where it is the low one
@@ -275,8 +323,16 @@ impl Furthest {
     }
 }
 
-/// r in twentieths for 1 to 5 lanes.
-const R: [i64; 6] = [0, 20, 18, 16, 14, 12];
+/// A carriageway.
+struct Side<'a> {
+    width: i64,
+    lanes: i64,
+    spacing: i64,
+    transverse: &'a [i64],
+}
+
+/// r in twentieths for 1 to 10 lanes.
+const R: [i64; 11] = [0, 20, 18, 16, 14, 12, 11, 11, 11, 11, 11];
 
 /// What a lane carries in overload: nothing, HO, or HN as the m-th additional lane,
 /// for m from 1 on.
@@ -287,37 +343,78 @@ enum Role {
     Additional(usize),
 }
 
-/// The twentieths of the first additional lane to the fourth.
-const ADDITIONAL: [i64; 4] = [20, 18, 16, 14];
+/// The twentieths of the first additional lane to the ninth.
+const ADDITIONAL: [i64; 9] = [20, 18, 16, 14, 12, 11, 11, 11, 11];
 
 /// Every way for so many lanes to have one HO and each of the first additional lanes
-/// once, found among all ways for each of them to have any role.
+/// once, found among all ways for each of them to have a role that none before has.
 fn overload_roles(lanes: usize) -> Vec<Vec<Role>> {
-    let role = |number: usize| match number {
-        0 => Role::Unloaded,
-        1 => Role::Ho,
-        _ => Role::Additional(number - 1),
-    };
-    let kinds = lanes + 1;
-    let ways = (0..kinds.pow(lanes as u32)).map(|way| {
-        let of_lane = |lane: usize| role(way / kinds.pow(lane as u32) % kinds);
-        (0..lanes).map(of_lane).collect::<Vec<Role>>()
-    });
-    ways.filter(|roles| {
+    let additional = (1..lanes).map(Role::Additional);
+    let every_role: Vec<Role> = [Role::Unloaded, Role::Ho]
+        .into_iter()
+        .chain(additional)
+        .collect();
+    let mut ways: Vec<Vec<Role>> = vec![vec![]];
+    for _ in 0..lanes {
+        let with_one_more = |way: &Vec<Role>| {
+            let way = way.clone();
+            let open = every_role.iter().copied();
+            open.filter_map(move |role| {
+                let is_free = role == Role::Unloaded || !way.contains(&role);
+                is_free.then(|| [&way[..], &[role]].concat())
+            })
+            .collect::<Vec<_>>()
+        };
+        ways = ways.iter().flat_map(with_one_more).collect();
+    }
+    ways.retain(|roles| {
         let times = |role| roles.iter().filter(|&&one| one == role).count();
         let additional = lanes - times(Role::Unloaded) - times(Role::Ho);
         times(Role::Ho) == 1 && (1..=additional).all(|m| times(Role::Additional(m)) == 1)
-    })
-    .collect()
+    });
+    ways
 }
 
+/// The most lanes whose roles are all tried.
+const EVERY_ROLE_TO: usize = 7;
+
 thread_local! {
-    /// `overload_roles` of 1 to 5 lanes.
-    static OVERLOAD_ROLES: Vec<Vec<Vec<Role>>> = (1..=5).map(overload_roles).collect();
+    /// `overload_roles` of so many lanes, from 1 on, once they are asked for.
+    static OVERLOAD_ROLES: [OnceCell<Vec<Vec<Role>>>; EVERY_ROLE_TO] = Default::default();
+}
+
+/// The sum over lanes of HN and HO effects in twentieths, furthest, with HO in each lane
+/// beside every set of others, the larger factors in the further ones.
+fn overload_sums_in_order(hn: &[Furthest], ho: &[Furthest]) -> Furthest {
+    let mut furthest = Furthest::NOTHING_TRIED;
+    for (ho_lane, of_ho) in ho.iter().enumerate() {
+        for set in (0..1_u32 << hn.len()).filter(|set| set >> ho_lane & 1 == 0) {
+            let others: Vec<&Furthest> = (0..hn.len())
+                .filter(|lane| set >> lane & 1 == 1)
+                .map(|lane| &hn[lane])
+                .collect();
+            let mut greatest: Vec<i64> = others.iter().map(|one| one.greatest).collect();
+            let mut least: Vec<i64> = others.iter().map(|one| one.least).collect();
+            greatest.sort_by_key(|effect| -effect);
+            least.sort();
+            let counted = |effects: &[i64]| -> i64 {
+                let counted = effects.iter().zip(ADDITIONAL);
+                counted.map(|(effect, factor)| factor * effect).sum()
+            };
+            furthest.take(
+                20 * of_ho.greatest + counted(&greatest),
+                20 * of_ho.least + counted(&least),
+            );
+        }
+    }
+    furthest
 }
 
 /// The sum over lanes of HN and HO effects in their roles, in twentieths, furthest.
 fn overload_sums(hn: &[Furthest], ho: &[Furthest]) -> Furthest {
+    if hn.len() > EVERY_ROLE_TO {
+        return overload_sums_in_order(hn, ho);
+    }
     let sum = |roles: &[Role], of: fn(&Furthest) -> i64| -> i64 {
         let in_lane = |(lane, role): (usize, &Role)| match role {
             Role::Unloaded => 0,
@@ -328,7 +425,8 @@ fn overload_sums(hn: &[Furthest], ho: &[Furthest]) -> Furthest {
     };
     let mut furthest = Furthest::NOTHING_TRIED;
     OVERLOAD_ROLES.with(|of_lanes| {
-        for roles in &of_lanes[hn.len() - 1] {
+        let ways = of_lanes[hn.len() - 1].get_or_init(|| overload_roles(hn.len()));
+        for roles in ways {
             furthest.take(sum(roles, |one| one.greatest), sum(roles, |one| one.least));
         }
     });
@@ -338,17 +436,27 @@ fn overload_sums(hn: &[Furthest], ho: &[Furthest]) -> Furthest {
 /// Normal, over every lane set, and overload; a farm job has 0.85 HN and no HO.
 fn traffic(job: &Parts) -> [Furthest; 2] {
     let [dynamic_greatest, dynamic_least] = dynamic_factors(job.header);
-    let n = lanes(job);
     let pair_sums = pair_sums(job);
+    let every_n: i64 = job.carriageways().map(|side| side.lanes).product();
     let in_lanes = |axle: i64| -> Vec<Furthest> {
-        (0..n)
-            .map(|lane| in_lane(job, lane, axle, &pair_sums))
-            .collect()
+        let on_side = |side: Side| {
+            let in_lane = |lane| in_lane(job, &side, lane, axle, &pair_sums);
+            let of_others = |one: Furthest| Furthest {
+                greatest: one.greatest * (every_n / side.lanes),
+                least: one.least * (every_n / side.lanes),
+            };
+            (0..side.lanes)
+                .map(in_lane)
+                .map(of_others)
+                .collect::<Vec<_>>()
+        };
+        job.carriageways().flat_map(on_side).collect()
     };
     let (hn, ho) = (in_lanes(1600), in_lanes(3200));
     let twentieths_of_x = if is_farm_job(job.header) { 17 } else { 20 };
-    // What stands in a lane carries n times g from its transverse ordinate.
-    let over = i128::from(20 * 800_000 * n * job.header[3]);
+    let n = hn.len();
+    // What stands in a lane carries every side's n, times g.
+    let over = i128::from(20 * 800_000 * every_n * job.header[3]);
     let effect = |twentieths: Furthest| {
         let [greatest, least] = [
             (twentieths.greatest, dynamic_greatest),
@@ -369,9 +477,7 @@ fn traffic(job: &Parts) -> [Furthest; 2] {
 
     let mut normal = Furthest::NOTHING_TRIED;
     for set in 0..1_u32 << n {
-        let loaded: Vec<usize> = (0..n as usize)
-            .filter(|lane| set >> lane & 1 == 1)
-            .collect();
+        let loaded: Vec<usize> = (0..n).filter(|lane| set >> lane & 1 == 1).collect();
         let tried = effect(sum_at_r(&loaded));
         normal.take(tried.greatest, tried.least);
     }
@@ -408,20 +514,20 @@ fn factor_by_counting(decimetres: i64) -> i64 {
     }
 }
 
-fn lanes(job: &Parts) -> i64 {
-    let wide_enough = |from: &&i64| job.header[4] >= **from;
+fn lanes(width: i64) -> i64 {
+    let wide_enough = |from: &&i64| width >= **from;
     1 + [600, 970, 1340, 1710].iter().filter(wide_enough).count() as i64
 }
 
-/// An element in a lane, over every centre, every stand and every piece loaded
+/// An element in a lane of a side, over every centre, every stand and every piece loaded
 /// or not, in 75 N·U times transverse thousandths, times n times g.
-fn in_lane(job: &Parts, lane: i64, axle: i64, pair_sums: &BTreeSet<i64>) -> Furthest {
+fn in_lane(job: &Parts, side: &Side, lane: i64, axle: i64, pair_sums: &BTreeSet<i64>) -> Furthest {
     let pieces = job.line.chunks(2);
     let uniform: Vec<i64> = pieces
         .map(|piece| 7 * job.header[1] * (piece[0] + piece[1]))
         .collect();
     let mut furthest = Furthest::NOTHING_TRIED;
-    for across in transverse_ordinates(job, lane) {
+    for across in transverse_ordinates(side, lane) {
         let on_pieces = uniform.iter().map(|piece| piece * across);
         let greatest: i64 = on_pieces.clone().map(|piece| piece.max(0)).sum();
         let least: i64 = on_pieces.map(|piece| piece.min(0)).sum();
@@ -454,15 +560,15 @@ fn pair_sums(job: &Parts) -> BTreeSet<i64> {
 /// The transverse ordinates, times n times g, at every n-th of a cm of the
 /// carriageway that is 150 cm or more from the lane's edges. Each ordinate of
 /// the job counts in full at its place and fades to 0 over a spacing.
-fn transverse_ordinates(job: &Parts, lane: i64) -> BTreeSet<i64> {
-    let (n, width) = (lanes(job), job.header[4]);
-    let spacing = n * job.header[3];
+fn transverse_ordinates(side: &Side, lane: i64) -> BTreeSet<i64> {
+    let (n, width) = (side.lanes, side.width);
+    let spacing = n * side.spacing;
     let (left_edge, right_edge) = (lane * width, (lane + 1) * width);
     let apart = |centre: i64| centre - left_edge >= 150 * n && right_edge - centre >= 150 * n;
     let centres = (0..=n * width).filter(|&centre| apart(centre));
     centres
         .map(|centre| {
-            let ordinates = (0..).zip(job.transverse);
+            let ordinates = (0..).zip(side.transverse);
             let parts = ordinates.map(|(number, ordinate)| {
                 ordinate * i64::max(0, spacing - (centre - number * spacing).abs())
             });

@@ -6,11 +6,13 @@
 pub mod call;
 pub mod definition;
 pub mod farm_tables;
+pub mod one_best;
 pub mod overload;
 pub mod refusals;
 pub mod streams;
 pub mod train_definition;
 
+use second::account::{Lane, Traffic};
 use second::arrangement::LoadedLane;
 use second::edition::Edition;
 use second::job::{
@@ -81,6 +83,7 @@ pub fn two_lane_job() -> Job {
         further_header: vec![],
         pieces: pieces(&[(0, 100), (100, 0), (0, -60), (-60, 0)]),
         transverse: (0..=15).map(|number| 1000 - 100 * number).collect(),
+        second_transverse: vec![],
         effects: vec![
             effect(1000, ALWAYS_PRESENT),
             effect(-2000, MAY_BE_LEFT_OUT),
@@ -117,6 +120,7 @@ pub fn level_job(width: i64, spacing: i64, transverse: Vec<i64>) -> Job {
         further_header: vec![],
         pieces: pieces(&[(8, 8)]),
         transverse,
+        second_transverse: vec![],
         effects: vec![],
         rows: vec![Row {
             state: SERVICE,
@@ -168,6 +172,14 @@ pub fn small_farm_job(values: [i64; 11]) -> Job {
         rows: vec![],
         ..level_job(300, 50, vec![1000; 7])
     }
+}
+
+/// The lanes of a placement on one carriageway; those of a second are unloaded.
+#[track_caller]
+pub fn five_lanes(traffic: &Traffic) -> [Lane; 5] {
+    let (first, second) = traffic.lanes.split_at(5);
+    assert_eq!(second, [Lane::default(); 5]);
+    first.try_into().expect("five lanes")
 }
 
 /// The element with this factor, as in an additional lane.

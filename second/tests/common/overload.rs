@@ -1,12 +1,12 @@
 //! Overload put together from what each lane gives, in any reading of its factors.
 
 use second::job::Job;
-use second::lanes::lane_count;
+use second::lanes::{common_denominator, lanes_of_job};
 use second::loads::{Element, Question};
 use second::traffic::{furthest_in_lane, LongitudinalEffects};
 
-/// The factors in twentieths of the first to the fourth additional lane.
-pub const FACTORS: [i128; 4] = [20, 18, 16, 14];
+/// The factors in twentieths of the first to the ninth additional lane.
+pub const FACTORS: [i128; 9] = [20, 18, 16, 14, 12, 11, 11, 11, 11];
 
 /// What decides the additional lanes' factors.
 #[derive(Clone, Copy)]
@@ -33,8 +33,8 @@ pub fn additional_sum(reading: Reading, question: Question, mut effects: Vec<i12
         _ => effects.sort_by(furthest_first),
     }
     let factors = match reading {
-        Reading::BehindHo => [18, 16, 14, 12],
-        Reading::ROfTheirNumber => [[20, 20, 18, 16, 14][effects.len()]; 4],
+        Reading::BehindHo => [18, 16, 14, 12, 11, 11, 11, 11, 11],
+        Reading::ROfTheirNumber => [[20, 20, 18, 16, 14, 12, 11, 11, 11, 11][effects.len()]; 9],
         _ => FACTORS,
     };
     let counted = effects.iter().zip(factors);
@@ -52,7 +52,7 @@ impl InLanes {
     pub fn of(job: &Job, question: Question) -> InLanes {
         let longitudinal = LongitudinalEffects::of(job);
         let in_lanes = |element| {
-            let lanes = 0..lane_count(job.width);
+            let lanes = 0..lanes_of_job(job);
             lanes
                 .map(|lane| furthest_in_lane(job, &longitudinal, lane, element, question).effect)
                 .collect()
@@ -110,8 +110,8 @@ impl InLanes {
 pub fn effect(job: &Job, question: Question, twentieths: i128) -> i64 {
     let (share, whole) = job.edition.share_of_x();
     let dividend = 3 * share * twentieths * i128::from(job.dynamic_factor(question));
-    let n_times_g = lane_count(job.width) as i128 * i128::from(job.spacing);
-    question.round(dividend, 800_000 * whole * n_times_g) as i64
+    let denominator = i128::from(common_denominator(job));
+    question.round(dividend, 800_000 * whole * denominator) as i64
 }
 
 /// Overload's value in 01's reading; a farm job's is 0.

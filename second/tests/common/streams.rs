@@ -4,7 +4,7 @@
 use second::edition::Edition;
 use second::generator::{case, damaged, faults_of, Case, Stream};
 use second::job::Job;
-use second::lanes::lane_count;
+use second::lanes::lanes_of_job;
 use second::rng::Rng;
 use second::sections::Sections;
 use second::words::{words_of, WORD_BYTES};
@@ -220,6 +220,7 @@ pub fn section_labels(words: &[i32], place: usize, words_per_effect: usize) -> V
     for (name, section, each) in [
         ("piece", sections.line, 2),
         ("transverse", sections.transverse, 1),
+        ("second transverse", sections.second_transverse, 1),
         ("effect", sections.effects, words_per_effect),
         ("row", sections.rows, 4),
         ("record", sections.records, 3),
@@ -243,7 +244,7 @@ pub fn section_labels(words: &[i32], place: usize, words_per_effect: usize) -> V
 pub fn shape_labels(job: &Job) -> Vec<String> {
     vec![
         format!("h {}", job.piece_length),
-        format!("{} lanes", lane_count(job.width)),
+        format!("{} lanes", lanes_of_job(job)),
         format!("dynamic kind {}", job.dynamic_kind),
     ]
 }

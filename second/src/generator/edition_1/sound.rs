@@ -42,6 +42,7 @@ pub fn sound_job(rng: &mut Rng) -> Job {
             (AXLE_DISTANCE / piece_length) as usize,
         ),
         transverse: sound_transverse(rng, ordinates_across(width, spacing)),
+        second_transverse: vec![],
         effects,
         rows,
         records,
@@ -78,6 +79,7 @@ pub(crate) fn extreme_job(rng: &mut Rng) -> Job {
         further_header: vec![],
         pieces: vec![piece; (LONGEST_LINE / piece_length) as usize],
         transverse: vec![level; ordinates_across(width, spacing)],
+        second_transverse: vec![],
         effects: vec![Effect { value, mark }; 16],
         rows: vec![row(SERVICE, LIVE_NORMAL), row(ULTIMATE, LIVE_OVERLOAD)],
         records: (1..=16)
@@ -90,7 +92,8 @@ pub(crate) fn extreme_job(rng: &mut Rng) -> Job {
     }
 }
 
-fn sound_width(rng: &mut Rng) -> i64 {
+/// A width next to where the number of lanes changes, or any.
+pub(crate) fn sound_width(rng: &mut Rng) -> i64 {
     const LANE_LIMITS: [i64; 10] = [300, 599, 600, 969, 970, 1339, 1340, 1709, 1710, 2079];
     match rng.below(3) {
         0 => rng.pick(&LANE_LIMITS),

@@ -9,15 +9,17 @@ use crate::rng::Rng;
 
 /// A job that no refusal is due for, given a long enough patch buffer.
 pub fn sound_job(rng: &mut Rng) -> Job {
-    let mut job = if rng.one_in(16) {
-        extreme_job(rng)
-    } else {
-        let mut job = edition_1::sound_job(rng);
-        for effect in &mut job.effects {
-            effect.value = sound_value(rng);
-        }
-        job
-    };
+    if rng.one_in(16) {
+        return extreme_job(rng);
+    }
+    let mut job = edition_1::sound_job(rng);
+    for effect in &mut job.effects {
+        effect.value = sound_value(rng);
+    }
+    of_edition_2(job)
+}
+
+fn of_edition_2(mut job: Job) -> Job {
     job.edition = Edition::Two;
     job.further_header = vec![0; 2];
     job
@@ -25,12 +27,12 @@ pub fn sound_job(rng: &mut Rng) -> Job {
 
 /// A job with every number at an end of its limits: rows of sixteen effects, each
 /// of a sign of its own, or all of one and so the largest rows there are.
-fn extreme_job(rng: &mut Rng) -> Job {
+pub(crate) fn extreme_job(rng: &mut Rng) -> Job {
     let mut job = edition_1::extreme_job(rng);
     let of_all = sign(rng);
     let alike = rng.one_in(2);
     for effect in &mut job.effects {
         effect.value = extreme_value(if alike { of_all } else { sign(rng) });
     }
-    job
+    of_edition_2(job)
 }

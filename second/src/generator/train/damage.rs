@@ -1,6 +1,7 @@
 //! Makes damaged cases: a sound one with faults, each meant for a refusal.
 
 use super::sound::sound_case;
+use crate::edition::Edition;
 use crate::generator::draws::{first_last_or_any, outside};
 use crate::generator::line::{give_a_piece_two_signs, LONGEST_LINE};
 use crate::rng::Rng;
@@ -91,7 +92,7 @@ pub fn damaged(rng: &mut Rng, faults: &[Fault]) -> TrainCase {
     let mut words = words_of(&case.line);
     if faults.contains(&Fault::TwoSigns) {
         for _ in 0..once_or_twice(rng) {
-            give_a_piece_two_signs(rng, &mut words);
+            give_a_piece_two_signs(rng, &mut words, Edition::One.most_in_line());
         }
     }
     if faults.contains(&Fault::Ordinate) {
