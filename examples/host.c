@@ -113,16 +113,25 @@ static const char *entry_name(int64_t entry) {
   }
 }
 
-/* A traffic value and the placement that gives it, on n lanes. */
-static void print_traffic(const char *name, int64_t value, const struct hnho_placement *placement, int64_t n) {
+/* The lanes of each carriageway. */
+static void print_lanes(const struct hnho_account *account) {
+  printf("  lanes %" PRId64, account->first_lanes);
+  if (account->second_lanes != 0)
+    printf(" + %" PRId64, account->second_lanes);
+}
+
+/* A traffic value and the placement that gives it. A lane's centre is counted from the left kerb of its own carriageway. */
+static void print_traffic(const char *name, int64_t value, const struct hnho_placement *placement,
+                          const struct hnho_account *account) {
   int i;
   printf("%s %" PRId64 " N.U\n", name, value);
-  printf("  lanes %" PRId64 ", set %" PRId64 "\n", n, placement->set);
+  print_lanes(account);
+  printf(", set %" PRId64 "\n", placement->set);
   for (i = 0; i < HNHO_LANES; i++) {
     const struct hnho_lane *lane = &placement->lane[i];
     if (lane->entry != HNHO_UNLOADED)
-      printf("  lane %d: %s, centre %" PRId64 "/%" PRId64 " cm, factor %" PRId64 "\n", i + 1, entry_name(lane->entry), lane->centre, n,
-             lane->factor);
+      printf("  lane %d: %s, centre %" PRId64 "/%" PRId64 " cm, factor %" PRId64 "\n", i + 1, entry_name(lane->entry), lane->centre,
+             hnho_lane_n(account, i), lane->factor);
   }
 }
 
@@ -148,11 +157,10 @@ static void print_state(const char *name, const struct hnho_state *state) {
 }
 
 static void print_account(const struct hnho_account *account) {
-  int64_t n = account->first_lanes;
-  print_traffic("normal greatest", account->normal_greatest, &account->normal_greatest_placement, n);
-  print_traffic("normal least", account->normal_least, &account->normal_least_placement, n);
-  print_traffic("overload greatest", account->overload_greatest, &account->overload_greatest_placement, n);
-  print_traffic("overload least", account->overload_least, &account->overload_least_placement, n);
+  print_traffic("normal greatest", account->normal_greatest, &account->normal_greatest_placement, account);
+  print_traffic("normal least", account->normal_least, &account->normal_least_placement, account);
+  print_traffic("overload greatest", account->overload_greatest, &account->overload_greatest_placement, account);
+  print_traffic("overload least", account->overload_least, &account->overload_least_placement, account);
   print_position("raising", &account->raising);
   print_position("lowering", &account->lowering);
   print_state("service", &account->service);

@@ -1,9 +1,9 @@
 /* hnho.h - the HN-HO-72 load kernel for hosts in C99 or C++.
  *
- * One call takes a job (an influence line, a transverse line, dynamic factors and a table of load factors, as 32-bit words; a farm
- * bridge's table is built in) to its account (the worst traffic values with a placement that gives each, and the row that governs
- * each limit state), or refuses it with a number and a word place. Another rates a train of axles on an influence line alone. Link
- * with libhnho.a. docs/HOST.md has the five-minute path.
+ * One call takes a job (an influence line, a transverse line for each carriageway, dynamic factors and a table of load factors, as
+ * 32-bit words; a farm bridge's table is built in) to its account (the worst traffic values with a placement that gives each, and the
+ * row that governs each limit state), or refuses it with a number and a word place. Another rates a train of axles on an influence
+ * line alone. Link with libhnho.a. docs/HOST.md has the five-minute path.
  *
  * The kernel keeps no state, allocates nothing and does no input or output: any number of threads may call it at once,
  * each with its own patch, account and report buffers.
@@ -24,9 +24,9 @@ extern "C" {
 /* Sizes. */
 #define HNHO_ACCOUNT_BYTES 1256  /* an account: HNHO_ACCOUNT_NUMBERS numbers of 8 bytes */
 #define HNHO_ACCOUNT_NUMBERS 157
-#define HNHO_LANES 10  /* lanes of a placement */
+#define HNHO_LANES 10  /* lanes of a placement, up to five of each carriageway */
 #define HNHO_MOST_PATCH_BYTES 1000  /* a patch buffer that is long enough for every job: N is at most 1000 */
-#define HNHO_MOST_JOB_BYTES 15732  /* the longest job of any edition that can be accepted: 3933 words */
+#define HNHO_MOST_JOB_BYTES 16572  /* the longest job of any edition that can be accepted: 4143 words, of edition 3 */
 #define HNHO_RATING_BYTES 72  /* a train's report: HNHO_RATING_NUMBERS numbers of 8 bytes */
 #define HNHO_RATING_NUMBERS 9
 #define HNHO_MOST_AXLES 12  /* of a train */
@@ -36,7 +36,7 @@ uint32_t hnho_layout(void);
 
 /* Solves a job.
  *
- * job, job_bytes: the job, 32-bit words, little-endian, signed but for the low halves of edition 2's values. Only read.
+ * job, job_bytes: the job, 32-bit words, little-endian, signed but for the low halves of values in N.U. Only read.
  *
  * patch, patch_bytes: a byte a piece of the influence line, so N or more; longer is fine. On acceptance byte i, from 0, gets
  * HNHO_PATCH_RAISING where piece i's ordinates add up to more than 0, HNHO_PATCH_LOWERING where to less, HNHO_PATCH_NEITHER
@@ -45,7 +45,7 @@ uint32_t hnho_layout(void);
  *
  * account, account_bytes: HNHO_ACCOUNT_BYTES or more. The first HNHO_ACCOUNT_BYTES bytes get the account, zeros on a refusal;
  * bytes past them keep their contents. A shorter buffer is refused with 2 at place 0: all of its bytes are set to 0, the patch
- * buffer keeps its contents and the job is not looked at. (A job's own refusal 2 has a place from 1 to 11.)
+ * buffer keeps its contents and the job is not looked at. (A job's own refusal 2 has a place from 1 to 12.)
  *
  * Result: 0 for acceptance, else 256 times the place plus the refusal's number; hnho_refusal and hnho_place take it apart.
  *
@@ -101,7 +101,7 @@ uint64_t hnho_train(size_t h, size_t pieces, const uint8_t *line, size_t line_by
 enum hnho_refusal_number {
   HNHO_ACCEPTED = 0,
   HNHO_NOT_A_JOB = 1,       /* 0 */
-  HNHO_HEADER_LIMIT = 2,    /* the word, 1 to 11 (N times h over 1000 counts at 2); 0 for a short buffer, and in hnho_train */
+  HNHO_HEADER_LIMIT = 2,    /* the word, 1 to 12 (N times h over 1000 counts at 2); 0 for a short buffer, and in hnho_train */
   HNHO_WORD_COUNT = 3,      /* the number of words due */
   HNHO_ORDINATE_LIMIT = 4,  /* the word */
   HNHO_PIECE_CROSSES = 5,   /* the piece's left ordinate */
@@ -117,6 +117,7 @@ enum hnho_refusal_number {
 enum hnho_edition {
   HNHO_EDITION_HIGHWAY = 1,
   HNHO_EDITION_NEWTONS = 2,  /* a highway bridge's, with effects in N.U (past 1000000000 kN.U, or not whole kN.U) or spans by sign */
+  HNHO_EDITION_TWO_CARRIAGEWAYS = 3,  /* the same, with a second carriageway beyond a median */
   HNHO_EDITION_RURAL = 4
 };
 
@@ -132,32 +133,36 @@ enum hnho_dynamic_kind {
   HNHO_DYNAMIC_FACTOR = 1,        /* the factor in thousandths, 1000 to 1300 */
   HNHO_DYNAMIC_BELOW_GROUND = 2,  /* 0: the factor is 1000 */
   HNHO_DYNAMIC_FILL = 3,          /* a culvert top slab under so much fill in cm, 0 to 5000: 1300 less 3 a cm, at least 1000 */
-  HNHO_DYNAMIC_SPANS = 4          /* edition 2: a span in dm for each question, greatest and least, 1 to 2000; a factor is 1300 for
-                                     spans up to 120 dm, beyond that 1000 and 150000 / (span + 380) rounded up */
+  HNHO_DYNAMIC_SPANS = 4          /* editions 2 and 3: a span in dm for each question, greatest and least, 1 to 2000; a factor is 1300
+                                     for spans up to 120 dm, beyond that 1000 and 150000 / (span + 380) rounded up */
 };
 
 /* The words of a job, by place.
  *
- *   0  edition: 1, 2 for effects in N.U or spans by sign, or 4 for a farm bridge
+ *   0  edition: 1, 2 for effects in N.U or spans by sign, 3 for two carriageways, or 4 for a farm bridge
  *   1  h, piece length in dm: 1, 2, 5, 10, 25 or 50
  *   2  N, pieces: 1 to 1000, N times h at most 1000
  *   3  g, spacing of the transverse ordinates in cm: 10 to 50
- *   4  W, carriageway width in cm: 300 to 2079
- *   5  dynamic kind, of enum hnho_dynamic_kind: 1 to 3; in edition 2 also 4
+ *   4  W, carriageway width in cm: 300 to 2079; in edition 3 the first carriageway's
+ *   5  dynamic kind, of enum hnho_dynamic_kind: 1 to 3; in editions 2 and 3 also 4
  *   6  its value; with kind 4 the span for greatest
  *   7  E, effects: 0 to 16; 11 in edition 4
  *   8  R, rows: 1 to 32; 0 in edition 4
  *   9  C, chain records: 0 to 512; 0 in edition 4
- *  10  edition 2: with kind 4 the span for least, else 0
+ *  10  editions 2 and 3: with kind 4 the span for least, else 0
  *  10  edition 4: of enum hnho_barriers. W is then the clear width and within the barriers' band, else refusal 11
- *  11  edition 2: reserved, 0
+ *  11  editions 2 and 3: reserved, 0
+ *  12  edition 3: the second carriageway's width in cm: 300 to 2079
  *
- * After the header, from word 10 on, in edition 4 from word 11 on, in edition 2 from word 12 on, one section after the other:
- *   2 N    ordinates of the influence line, a left and a right one a piece: -5000 to 5000, in a unit U of the sender's
+ * After the header, from word 10 on, in edition 4 from word 11 on, in edition 2 from word 12 on, in edition 3 from word 13 on, one
+ * section after the other:
+ *   2 N    ordinates of the influence line, a left and a right one a piece: -5000 to 5000, in edition 3 -500 to 500, in a unit U of
+ *          the sender's
  *   M + 1  transverse ordinates, M = W / g rounded up: -1000 to 1000 in thousandths, the first at the left kerb
+ *   M + 1  in edition 3 only: those of the second carriageway, M by its own width, the first at its own left kerb
  *   2 E    effects: value in kN.U, -1000000000 to 1000000000; 1 always present, 2 may be left out
- *   3 E    in edition 2: value in N.U, -100000000000000 to 100000000000000, in two words, the low half unsigned and then the high
- *          half signed, as hnho_put_wide writes it; the same marks
+ *   3 E    in editions 2 and 3 instead: value in N.U, -100000000000000 to 100000000000000, in two words, the low half unsigned and
+ *          then the high half signed, as hnho_put_wide writes it; the same marks
  *   4 R    rows: 1 service, 2 ultimate; live kind 0 none, 1 normal, 2 overload; live factor 0 to 3000, 0 for kind 0; first record,
  *          0 to C, 0 for none
  *   3 C    records: effect 1 to E; factor 0 to 3000; next record, 0 to C, 0 for the end of the chain
@@ -175,14 +180,16 @@ enum hnho_word_place {
   HNHO_WORD_W = 4,
   HNHO_WORD_DYNAMIC_KIND = 5,
   HNHO_WORD_DYNAMIC_VALUE = 6,
-  HNHO_WORD_GREATEST_SPAN = 6,  /* in edition 2 with kind 4 */
+  HNHO_WORD_GREATEST_SPAN = 6,  /* in editions 2 and 3 with kind 4 */
   HNHO_WORD_E = 7,
   HNHO_WORD_R = 8,
   HNHO_WORD_C = 9,
-  HNHO_WORD_LEAST_SPAN = 10,   /* in edition 2; 0 but with kind 4 */
+  HNHO_WORD_LEAST_SPAN = 10,   /* in editions 2 and 3; 0 but with kind 4 */
   HNHO_WORD_BARRIERS = 10,     /* in edition 4 */
+  HNHO_WORD_SECOND_W = 12,     /* in edition 3 */
   HNHO_HEADER_WORDS = 10,      /* of edition 1 */
   HNHO_NEWTONS_HEADER_WORDS = 12,  /* of edition 2 */
+  HNHO_TWO_CARRIAGEWAYS_HEADER_WORDS = 13,  /* of edition 3 */
   HNHO_RURAL_HEADER_WORDS = 11  /* of edition 4 */
 };
 
@@ -207,14 +214,16 @@ struct hnho_position {
 /* What a lane carries in a placement; all 0 for an unloaded lane. */
 struct hnho_lane {
   int64_t entry;   /* of enum hnho_lane_entry */
-  int64_t centre;  /* in n-ths of a cm from the left kerb, n the lanes of its carriageway */
-  int64_t factor;  /* in twentieths, of an additional lane, one under HN beside the HO lane of an overload: 20, 18, 16 or 14; else 0 */
+  int64_t centre;  /* in n-ths of a cm from its own carriageway's left kerb, n being the lanes of that carriageway; see hnho_lane_n */
+  int64_t factor;  /* in twentieths, of an additional lane, one under HN beside the HO lane of an overload: 20, 18, 16, 14, 12 or,
+                      from the sixth on, 11; else 0 */
 };
 
 /* A placement of traffic. */
 struct hnho_placement {
   int64_t set;                        /* a bit a lane, lane 1 the lowest; 1 for a loaded lane */
-  struct hnho_lane lane[HNHO_LANES];  /* from lane 1, the leftmost, at 0; those past the job's own are unloaded */
+  struct hnho_lane lane[HNHO_LANES];  /* from lane 1, the leftmost, at 0; the second carriageway's follow the first's; those past the
+                                         job's own are unloaded */
 };
 
 /* The row that governs a question of a limit state. */
@@ -255,8 +264,8 @@ struct hnho_account {
   struct hnho_state service;
   struct hnho_state ultimate;
 
-  int64_t first_lanes;     /* lanes of the carriageway */
-  int64_t second_lanes;    /* lanes of a second carriageway; reserved, 0 */
+  int64_t first_lanes;     /* lanes of the carriageway, in edition 3 of the first */
+  int64_t second_lanes;    /* lanes of the second carriageway; 0 where there is one carriageway */
   int64_t records_walked;  /* reserved, 0 */
 };
 
@@ -364,15 +373,16 @@ static inline const char *hnho_refusal_text(int number) {
   case HNHO_ACCEPTED:
     return "accepted";
   case HNHO_NOT_A_JOB:
-    return "under 10 words, in edition 4 under 11, in edition 2 under 12, a byte count that 4 does not divide, or word 0 is none "
-           "of 1, 2 and 4; mended by whoever packs the job";
+    return "under 10 words, in edition 4 under 11, in edition 2 under 12, in edition 3 under 13, a byte count that 4 does not "
+           "divide, or word 0 is none of 1 to 4; mended by whoever packs the job";
   case HNHO_HEADER_LIMIT:
     return "a header word outside its limits; mended by whoever packs the job (at place 0 a short account or report buffer, or "
            "h, N, the section's length or the mode of a train's call outside its limits; mended by the host)";
   case HNHO_WORD_COUNT:
     return "not the number of words that the header calls for; mended by whoever packs the job";
   case HNHO_ORDINATE_LIMIT:
-    return "an ordinate of either line outside its limits; mended by whoever works out the lines";
+    return "an ordinate of the influence line, -500 to 500 with two carriageways and else -5000 to 5000, or of a transverse line, "
+           "-1000 to 1000, outside its limits; mended by whoever works out the lines";
   case HNHO_PIECE_CROSSES:
     return "a piece with one ordinate above 0 and one below; mended by whoever works out the lines";
   case HNHO_TABLE_LIMIT:
@@ -452,6 +462,15 @@ static inline void hnho_read_account(const uint8_t *bytes, struct hnho_account *
   account->records_walked = hnho_number(bytes, HNHO_RECORDS_WALKED);
 }
 
+/* n of lane[i] of a placement, in n-ths of a cm of which its centre is: the lanes of the carriageway that it is on; 0 for a lane past
+ * the job's own. */
+static inline int64_t hnho_lane_n(const struct hnho_account *account, size_t i) {
+  const int64_t lane = (int64_t)i;
+  if (lane < account->first_lanes)
+    return account->first_lanes;
+  return lane < account->first_lanes + account->second_lanes ? account->second_lanes : 0;
+}
+
 static inline void hnho_read_train_stand(const uint8_t *bytes, size_t place, struct hnho_train_stand *stand) {
   stand->way = hnho_number(bytes, place + HNHO_STAND_WAY);
   stand->side = hnho_number(bytes, place + HNHO_STAND_SIDE);
@@ -475,7 +494,7 @@ static inline void hnho_put_word(uint8_t *words, size_t place, int32_t word) {
     words[4 * place + i] = (uint8_t)(bits >> 8 * i & 255u);
 }
 
-/* Writes an effect's value of edition 2, in N.U: its low half into the word at this place, its high half into the next. */
+/* Writes an effect's value of edition 2 or 3, in N.U: its low half into the word at this place, its high half into the next. */
 static inline void hnho_put_wide(uint8_t *words, size_t place, int64_t value) {
   uint64_t bits = (uint64_t)value;
   size_t i;

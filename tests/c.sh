@@ -1,7 +1,7 @@
 #!/usr/bin/env bash
 # The C side: installs the kernel, compiles the header and the C files with warnings as errors, runs them under the address and
-# undefined-behaviour sanitizers, and holds the examples' output to examples/*.expected, the job that arch packs to
-# examples/arch-job.bin and the stored cases' output to crates/replay/stdout.
+# undefined-behaviour sanitizers, and holds the examples' output to examples/*.expected, the jobs that arch and motorway pack to
+# examples/*-job.bin and the stored cases' output to crates/replay/stdout.
 # The examples are built by pkg-config from a moved installation too, outside the repository, as C and as C++. Its products are in
 # target/c.
 set -u
@@ -43,9 +43,9 @@ page() {
   "$@" >target/c/example.out && diff -u "$expected" target/c/example.out
 }
 
-# packs EXAMPLE: the example writes the arch job
+# packs EXAMPLE: the example writes the job of its name
 packs() {
-  "$1" >target/c/example.out && cmp target/c/example.out examples/arch-job.bin
+  "$1" >target/c/example.out && cmp target/c/example.out "examples/${1##*/}-job.bin"
 }
 
 # fails STATUS TEXT EXAMPLE ARGUMENT..: the example prints nothing, says this and has this status
@@ -104,11 +104,13 @@ for example in host truck; do
     "target/c/other/$example" "${arguments[@]}"
 done
 
-for job in farm arch deck; do
+for job in farm arch deck motorway; do
   step "the page of the $job job" page "examples/$job-job.expected" target/c/host "examples/$job-job.bin"
 done
-step 'compiling examples/arch.c' compile examples/arch.c target/c/arch
-step 'the job that arch packs' packs target/c/arch
+for example in arch motorway; do
+  step "compiling examples/$example.c" compile "examples/$example.c" "target/c/$example"
+  step "the job that $example packs" packs "target/c/$example"
+done
 
 # the arch job with a 1 in word 11, and with the high half of its first effect past every limit
 { head -c 44 examples/arch-job.bin; printf '\1\0\0\0'; tail -c +49 examples/arch-job.bin; } >target/c/word-11.bin
@@ -118,6 +120,19 @@ by the host)" target/c/host target/c/word-11.bin
 { head -c 288 examples/arch-job.bin; printf '\0\0\0\1'; tail -c +293 examples/arch-job.bin; } >target/c/far.bin
 step 'an effect of an arch job past its limits' fails 1 "refused 6 at 71: a word of an effect, a row or a record, or an effect's \
 value of two words, outside its limits; mended by whoever keeps the factors" target/c/host target/c/far.bin
+
+# the motorway job with 501 in its line, with a second width of 2080, and without the second carriageway's last ordinate
+{ head -c 72 examples/motorway-job.bin; printf '\365\1\0\0'; tail -c +77 examples/motorway-job.bin; } >target/c/ordinate-501.bin
+step 'an ordinate of 501 in a motorway job' fails 1 "refused 4 at 18: an ordinate of the influence line, -500 to 500 with two \
+carriageways and else -5000 to 5000, or of a transverse line, -1000 to 1000, outside its limits; mended by whoever works out the lines" \
+  target/c/host target/c/ordinate-501.bin
+{ head -c 48 examples/motorway-job.bin; printf '\40\10\0\0'; tail -c +53 examples/motorway-job.bin; } >target/c/second-width.bin
+step 'a second width of 2080' fails 1 "refused 2 at 12: a header word outside its limits; mended by whoever packs the job (at place 0 a \
+short account or report buffer, or h, N, the section's length or the mode of a train's call outside its limits; mended by the host)" \
+  target/c/host target/c/second-width.bin
+{ head -c 356 examples/motorway-job.bin; tail -c +361 examples/motorway-job.bin; } >target/c/second-section.bin
+step 'an ordinate too few on the second carriageway' fails 1 "refused 3 at 116: not the number of words that the header calls for; \
+mended by whoever packs the job" target/c/host target/c/second-section.bin
 
 # the farm job with W 369, too narrow for traffic barriers
 { head -c 16 examples/farm-job.bin; printf '\161\1\0\0'; tail -c +21 examples/farm-job.bin; } >target/c/narrow.bin
@@ -163,18 +178,20 @@ away=$(mktemp -d) || exit 2
 trap 'rm -rf "$away"' EXIT
 step 'an installation' install_in "$away" first
 step 'moving the installation' mv "$away/first" "$away/moved"
-step 'the release that HOST.md names' env PKG_CONFIG_PATH="$away/moved/lib/pkgconfig" pkg-config --atleast-version=1.4 hnho
-step 'a copy of the examples' cp examples/host.c examples/truck.c examples/arch.c "$away"
+step 'the release that HOST.md names' env PKG_CONFIG_PATH="$away/moved/lib/pkgconfig" pkg-config --atleast-version=1.5 hnho
+step 'a copy of the examples' cp examples/host.c examples/truck.c examples/arch.c examples/motorway.c "$away"
 for compiler in 'gcc -std=c99' 'g++ -x c++ -std=c++98' 'g++ -x c++ -std=c++20'; do
   for example in host truck; do
     declare -n arguments=$example
     step "$example by $compiler and pkg-config" outside "$away" "$example" $compiler
     step "the page of $example by $compiler and pkg-config" page "examples/$example.expected" "$away/$example" "${arguments[@]}"
   done
-  for job in farm arch deck; do
+  for job in farm arch deck motorway; do
     step "the page of the $job job by $compiler and pkg-config" page "examples/$job-job.expected" "$away/host" "examples/$job-job.bin"
   done
-  step "arch by $compiler and pkg-config" outside "$away" arch $compiler
-  step "the job that arch packs by $compiler and pkg-config" packs "$away/arch"
+  for example in arch motorway; do
+    step "$example by $compiler and pkg-config" outside "$away" "$example" $compiler
+    step "the job that $example packs by $compiler and pkg-config" packs "$away/$example"
+  done
 done
 printf 'c.sh: the header, the example hosts, the edges, the stored cases and the installation are as due\n'

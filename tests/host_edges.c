@@ -1,5 +1,5 @@
 /* The edges of hnho_solve: null pointers, odd lengths, short, exact and long buffers, one refusal of each number; every number of
- * Job A's account and of a farm job's; the limits of editions 2 and 4, and spans by sign; and the header's own functions. Expected
+ * Job A's account and of a farm job's; the limits of editions 2, 3 and 4, and spans by sign; and the header's own functions. Expected
  * numbers are the documents' or worked out from them by hand.
  * Every buffer has guard bytes on both sides; every byte that must keep its contents is looked at.
  *
@@ -23,13 +23,13 @@ enum {
   FARM_MOST_WORDS = 78, /* at W 2080 */
   FARM_LINE_AT = 11,
   FARM_EFFECTS = 11,
-  WIDE_LINE_AT = 12, /* of a job of edition 2 */
-  WIDE_EFFECTS_AT = 21,
+  WIDE_ACROSS = 7, /* transverse ordinates of a job of edition 2 or 3 on its carriageway of 300 cm */
+  WIDE_MOST_SECOND_ACROSS = 43, /* and on a second of 2100 cm */
   WIDE_MOST_EFFECTS = 16,
-  WIDE_MOST_WORDS = 21 + 3 * WIDE_MOST_EFFECTS + 8 + 3 * WIDE_MOST_EFFECTS
+  WIDE_MOST_WORDS = 13 + 2 + WIDE_ACROSS + WIDE_MOST_SECOND_ACROSS + 3 * WIDE_MOST_EFFECTS + 8 + 3 * WIDE_MOST_EFFECTS + 1
 };
 
-/* The furthest that an effect of edition 2 is from 0, in N.U. */
+/* The furthest that an effect of edition 2 or 3 is from 0, in N.U. */
 #define WIDE_MOST INT64_C(100000000000000)
 
 /* Job A, as it was read. */
@@ -171,14 +171,47 @@ static void expect_farm_job(struct buffer patch, struct buffer account) {
   expect(a.first_lanes == 1 && a.second_lanes == 0 && a.records_walked == 0, "lanes and records");
 }
 
-/* The job of edition 2 that pack_wide packs: its effects, all with one mark, and their factor in both rows. */
+/* The job of edition 2 or 3 that pack_wide packs: its effects, all with one mark, and their factor in both rows. */
 static int64_t wide_value[WIDE_MOST_EFFECTS];
 static int32_t wide_effects, wide_mark, wide_factor;
 
-/* Both ordinates of its line's one piece, 8 or -8; its dynamic kind, with words 6 and 10; and the factors that are due in thousandths,
- * for greatest and for least. */
+/* Both ordinates of its line's one piece, an even number; its dynamic kind, with words 6 and 10; and the factors that are due in
+ * thousandths, for greatest and for least. */
 static int32_t wide_ordinate = 8, wide_kind = HNHO_DYNAMIC_BELOW_GROUND, wide_spans[2];
 static int64_t wide_dynamic[2] = {1000, 1000};
+
+/* The width of a second carriageway, whose transverse ordinates are all 0, and its lanes; 0 for a job of edition 2. */
+static int32_t wide_second, wide_second_lanes;
+
+static size_t wide_header_words(void) {
+  return wide_second == 0 ? HNHO_NEWTONS_HEADER_WORDS : HNHO_TWO_CARRIAGEWAYS_HEADER_WORDS;
+}
+
+/* Transverse ordinates of the second carriageway. */
+static size_t wide_second_across(void) {
+  return wide_second == 0 ? 0 : (size_t)((wide_second + 49) / 50 + 1);
+}
+
+/* The first word of each section of the job. */
+static size_t wide_line_at(void) {
+  return wide_header_words();
+}
+
+static size_t wide_across_at(void) {
+  return wide_line_at() + 2;
+}
+
+static size_t wide_second_at(void) {
+  return wide_across_at() + WIDE_ACROSS;
+}
+
+static size_t wide_effects_at(void) {
+  return wide_second_at() + wide_second_across();
+}
+
+static size_t wide_words(void) {
+  return wide_effects_at() + 3 * (size_t)wide_effects + 2 * 4 + 3 * (size_t)wide_effects;
+}
 
 /* A value of the job: what its effects on one side of 0 come to where they may be left out, else all of them, and the traffic. Which
  * are left out is known but for those of 0. */
@@ -201,28 +234,30 @@ static void expect_wide_governing(struct hnho_governing g, int side, int64_t row
 
 /* The account of that job. W is 300 and all transverse ordinates are 1000. On a line of 8 HN is 7 * 50 * 16 + 1600 * 8 = 18400, for only
  * one axle is on, and HO 7 * 50 * 16 + 3200 * 8 = 31200; times 1000 * 20 * 3 / 800000 = 3 / 40 they are 1380 and 2340 N.U a thousandth
- * of the dynamic factor, all of it for greatest. On a line of -8 it is the same below 0, all for least. Row 1 is service without
- * traffic, row 2 ultimate with overload at 3000. */
+ * of the dynamic factor, all of it for greatest. On a line of -8 it is the same below 0, all for least, and on any other line as many
+ * times as much as its ordinate is 8. A second carriageway gives nothing. Row 1 is service without traffic, row 2 ultimate with
+ * overload at 3000. */
 static void expect_wide_job(struct buffer patch, struct buffer account) {
   const int raised = wide_ordinate > 0;
-  const int64_t greatest = raised ? wide_dynamic[0] : 0, least = raised ? 0 : -wide_dynamic[1];
-  const struct hnho_placement *ho;
+  const int64_t hn = 1380 / 4 * (wide_ordinate / 2), ho = 2340 / 4 * (wide_ordinate / 2);
+  const int64_t greatest = raised ? wide_dynamic[0] : 0, least = raised ? 0 : wide_dynamic[1];
+  const struct hnho_placement *heavy;
   struct hnho_account a;
   expect(all_are(patch.bytes, 0, 1, raised ? HNHO_PATCH_RAISING : HNHO_PATCH_LOWERING), "the patch byte is not the job's");
   expect(all_are(patch.bytes, 1, patch.n, OLD_PATCH), "bytes past N changed");
   expect(all_are(account.bytes, HNHO_ACCOUNT_BYTES, account.n, OLD_ACCOUNT), "bytes past the account changed");
   hnho_read_account(account.bytes, &a);
-  expect(a.normal_greatest == 1380 * greatest && a.normal_least == 1380 * least, "the normal values");
-  expect(a.overload_greatest == 2340 * greatest && a.overload_least == 2340 * least, "the overload values");
-  ho = raised ? &a.overload_greatest_placement : &a.overload_least_placement;
-  expect(ho->set == 1 && ho->lane[0].entry == (raised ? HNHO_HO_RAISING : HNHO_HO_LOWERING), "the HO lane");
+  expect(a.normal_greatest == hn * greatest && a.normal_least == hn * least, "the normal values");
+  expect(a.overload_greatest == ho * greatest && a.overload_least == ho * least, "the overload values");
+  heavy = raised ? &a.overload_greatest_placement : &a.overload_least_placement;
+  expect(heavy->set == 1 && heavy->lane[0].entry == (raised ? HNHO_HO_RAISING : HNHO_HO_LOWERING), "the HO lane");
   expect(a.service.reported == 1 && a.ultimate.reported == 1, "a state");
   expect_wide_governing(a.service.greatest, 1, 1, 0, "service greatest");
   expect_wide_governing(a.service.least, -1, 1, 0, "service least");
-  expect_wide_governing(a.ultimate.greatest, 1, 2, 3000 * 2340 * greatest, "ultimate greatest");
-  expect_wide_governing(a.ultimate.least, -1, 2, 3000 * 2340 * least, "ultimate least");
+  expect_wide_governing(a.ultimate.greatest, 1, 2, 3000 * ho * greatest, "ultimate greatest");
+  expect_wide_governing(a.ultimate.least, -1, 2, 3000 * ho * least, "ultimate least");
   expect(a.service.greatest.unladen == 0 && (raised ? a.ultimate.greatest : a.ultimate.least).unladen == 0, "the traffic");
-  expect(a.first_lanes == 1 && a.second_lanes == 0 && a.records_walked == 0, "lanes and records");
+  expect(a.first_lanes == 1 && a.second_lanes == wide_second_lanes && a.records_walked == 0, "lanes and records");
 }
 
 /* What an accepted job's buffers are held to. */
@@ -317,8 +352,9 @@ static void patch_lengths(void) {
 
 static void refusals(void) {
   size_t word;
-  call_changed("edition 3", HNHO_WORD_EDITION, 3, HNHO_NOT_A_JOB, 0);
+  call_changed("edition 5", HNHO_WORD_EDITION, 5, HNHO_NOT_A_JOB, 0);
   call_changed("Job A as edition 2, 50 in word 11", HNHO_WORD_EDITION, HNHO_EDITION_NEWTONS, HNHO_HEADER_LIMIT, 11);
+  call_changed("Job A as edition 3, 50 in word 11", HNHO_WORD_EDITION, HNHO_EDITION_TWO_CARRIAGEWAYS, HNHO_HEADER_LIMIT, 11);
   call_changed("Job A as edition 4", HNHO_WORD_EDITION, HNHO_EDITION_RURAL, HNHO_HEADER_LIMIT, HNHO_WORD_E);
   for (word = 1; word < HNHO_HEADER_WORDS; word++)
     call_changed("a header word of -1", word, -1, HNHO_HEADER_LIMIT, word);
@@ -332,6 +368,25 @@ static void refusals(void) {
   call_changed("a record of no effect", RECORDS_AT + 3, 2, HNHO_TABLE_LIMIT, RECORDS_AT + 3);
   call_changed("a chain that comes back", RECORDS_AT + 5, 2, HNHO_CHAIN_RETURNS, ROWS_AT + 4);
   call_changed("an effect named twice", RECORDS_AT + 2, 2, HNHO_EFFECT_TWICE, ROWS_AT);
+}
+
+/* Job A with 5000 for its first ordinate, the limit with one carriageway. The sum of all ordinates is 10000 + 5000, the pair's
+ * 5000 + 250 with its left axle just right of station 0: HN is 70 * 15000 + 1600 * 5250 = 9450000, HO 70 * 15000 + 3200 * 5250 =
+ * 17850000, and the lanes are loaded as in Job A. Normal is 9450000 * 975 * 18 * 1300 * 3 / 800000 = 808506562.5, rounded up, overload
+ * 20 * (712.5 * 17850000 + 262.5 * 9450000) * 1300 * 3 / 800000. */
+static void expect_steep_job(struct buffer patch, struct buffer account) {
+  struct hnho_account a;
+  expect(all_are(patch.bytes, 0, PIECES, HNHO_PATCH_RAISING), "the patch bytes");
+  hnho_read_account(account.bytes, &a);
+  expect(a.normal_greatest == 808506563 && a.normal_least == 0, "the normal values");
+  expect(a.overload_greatest == 1481878125 && a.overload_least == 0, "the overload values");
+  expect(a.raising.station == 0 && a.raising.side == HNHO_SIDE_RIGHT, "the raising pair");
+}
+
+static void steep_line(void) {
+  expect_accepted = expect_steep_job;
+  call_changed("an ordinate of 5000", 10, 5000, HNHO_ACCEPTED, 0);
+  expect_accepted = expect_job_a;
 }
 
 /* Ordinates that are 5 in their low 16 bits: 5 + 2^16, 5 - 2^16 and, as a signed word, 5 + 2^31. */
@@ -428,7 +483,7 @@ static void farm_lengths(void) {
 }
 
 static void farm_refusals(void) {
-  static const int32_t editions[] = {0, 3, 5, -4, INT32_MIN, INT32_MAX};
+  static const int32_t editions[] = {0, 5, -4, 259, INT32_MIN, INT32_MAX};
   static const int32_t barriers[] = {0, 4, -1, INT32_MIN, INT32_MAX};
   const size_t effects_at = FARM_WORDS - 2 * FARM_EFFECTS;
   size_t i;
@@ -436,6 +491,7 @@ static void farm_refusals(void) {
     call_farm_changed("another edition", HNHO_WORD_EDITION, editions[i], HNHO_NOT_A_JOB, 0);
   call_farm_changed("the farm job as edition 1", HNHO_WORD_EDITION, HNHO_EDITION_HIGHWAY, HNHO_HEADER_LIMIT, HNHO_WORD_R);
   call_farm_changed("the farm job as edition 2", HNHO_WORD_EDITION, HNHO_EDITION_NEWTONS, HNHO_HEADER_LIMIT, HNHO_WORD_R);
+  call_farm_changed("the farm job as edition 3", HNHO_WORD_EDITION, HNHO_EDITION_TWO_CARRIAGEWAYS, HNHO_HEADER_LIMIT, HNHO_WORD_R);
   for (i = 1; i < HNHO_RURAL_HEADER_WORDS; i++)
     call_farm_changed("a header word of -1", i, -1, HNHO_HEADER_LIMIT, i);
   call_farm_changed("ten effects", HNHO_WORD_E, 10, HNHO_HEADER_LIMIT, HNHO_WORD_E);
@@ -467,20 +523,23 @@ static void farm_jobs(void) {
   expect_accepted = expect_job_a;
 }
 
-/* Packs the job of edition 2; its words. */
+/* Packs the job of edition 2 or 3; its words. */
 static size_t pack_wide(uint8_t *job) {
-  const int32_t header[HNHO_NEWTONS_HEADER_WORDS] = {
-    HNHO_EDITION_NEWTONS, 50, 1, 50, 300, wide_kind, wide_spans[0], wide_effects, 2, wide_effects, wide_spans[1], 0
+  const int32_t edition = wide_second == 0 ? HNHO_EDITION_NEWTONS : HNHO_EDITION_TWO_CARRIAGEWAYS;
+  const int32_t header[HNHO_TWO_CARRIAGEWAYS_HEADER_WORDS] = {
+    edition, 50, 1, 50, 300, wide_kind, wide_spans[0], wide_effects, 2, wide_effects, wide_spans[1], 0, wide_second
   };
   const int32_t rows[] = {1, 0, 0, wide_effects > 0, 2, 2, 3000, wide_effects > 0};
   size_t words = 0, i;
   int32_t effect;
-  for (i = 0; i < HNHO_NEWTONS_HEADER_WORDS; i++)
+  for (i = 0; i < wide_header_words(); i++)
     hnho_put_word(job, words++, header[i]);
   for (i = 0; i < 2; i++)
     hnho_put_word(job, words++, wide_ordinate);
-  for (i = 0; i < 7; i++)
+  for (i = 0; i < WIDE_ACROSS; i++)
     hnho_put_word(job, words++, 1000);
+  for (i = 0; i < wide_second_across(); i++)
+    hnho_put_word(job, words++, 0);
   for (effect = 0; effect < wide_effects; effect++, words += 3) {
     hnho_put_wide(job, words, wide_value[effect]);
     hnho_put_word(job, words + 2, wide_mark);
@@ -526,7 +585,7 @@ static void wide_values(void) {
     for (wide_mark = 1; wide_mark <= 2; wide_mark++)
       for (wide_factor = 1; wide_factor <= 3000; wide_factor += 2999) {
         wide_value[0] = values[i];
-        call_wide("a value of edition 2", HNHO_ACCEPTED, 0);
+        call_wide("a value of two words", HNHO_ACCEPTED, 0);
       }
 }
 
@@ -539,50 +598,51 @@ static void wide_rows(void) {
     for (wide_mark = 1; wide_mark <= 2; wide_mark++) {
       for (i = 0; i < wide_effects; i++)
         wide_value[i] = (signs >> i % 2 & 1) == 0 ? WIDE_MOST : -WIDE_MOST;
-      call_wide("sixteen effects of edition 2 in one row", HNHO_ACCEPTED, 0);
+      call_wide("sixteen effects of two words in one row", HNHO_ACCEPTED, 0);
     }
   wide_effects = 0;
-  call_wide("no effects in edition 2", HNHO_ACCEPTED, 0);
+  call_wide("no effects of two words", HNHO_ACCEPTED, 0);
 }
 
-/* The front of a job of edition 2: twelve words are due for its header, and three for each effect. */
+/* The front of a job of edition 2 or 3: twelve words are due for its header, with a second carriageway thirteen, and three for each
+ * effect. */
 static void wide_lengths(void) {
   uint8_t job[4 * WIDE_MOST_WORDS];
   size_t words = pack_wide(job), n;
-  step = "the front of a job of edition 2";
-  expect(words == WIDE_EFFECTS_AT + 3 * 2 + 2 * 4 + 3 * 2, "its words");
+  step = "the front of a job of edition 2 or 3";
+  expect(words == wide_words(), "its words");
   for (n = 0; n < 4 * words; n++)
-    if (n < 4 * HNHO_NEWTONS_HEADER_WORDS || n % 4 != 0)
+    if (n < 4 * wide_header_words() || n % 4 != 0)
       call(job, n, 1, HNHO_ACCOUNT_BYTES, 0, HNHO_NOT_A_JOB, 0);
     else
       call(job, n, 1, HNHO_ACCOUNT_BYTES, 0, HNHO_WORD_COUNT, words);
-  step = "a job of edition 2 and one word";
+  step = "a job of edition 2 or 3 and one word";
   hnho_put_word(job, words, 0);
   call(job, 4 * words + 4, 1, HNHO_ACCOUNT_BYTES, 0, HNHO_WORD_COUNT, words);
-  step = "buffers longer than a job of edition 2 needs";
+  step = "buffers longer than a job of edition 2 or 3 needs";
   call(job, 4 * words, 9, HNHO_ACCOUNT_BYTES + 8, 0, HNHO_ACCEPTED, 0);
-  step = "a job of edition 2 without a patch buffer";
+  step = "a job of edition 2 or 3 without a patch buffer";
   call(job, 4 * words, 0, HNHO_ACCOUNT_BYTES, 1, HNHO_PATCH_SHORT, 1);
-  step = "a job of edition 2 and a short account buffer";
+  step = "a job of edition 2 or 3 and a short account buffer";
   call(job, 4 * words, 1, HNHO_ACCOUNT_BYTES - 1, 0, HNHO_HEADER_LIMIT, 0);
   call_wide_changed("an effect more than there is", HNHO_WORD_E, 3, HNHO_WORD_R, 2, HNHO_WORD_COUNT, words + 3);
   call_wide_changed("an effect fewer than there is", HNHO_WORD_E, 1, HNHO_WORD_R, 2, HNHO_WORD_COUNT, words - 3);
 }
 
 static void wide_header(void) {
-  static const int32_t editions[] = {0, 3, 5, -2, INT32_MIN, INT32_MAX};
+  static const int32_t editions[] = {0, 5, -2, -3, 258, 259, INT32_MIN, INT32_MAX};
   static const int32_t no_zeros[] = {1, -1, INT32_MIN, INT32_MAX};
   size_t i;
   for (i = 0; i < sizeof editions / sizeof *editions; i++)
     call_wide_changed("another edition", HNHO_WORD_EDITION, editions[i], 10, 1, HNHO_NOT_A_JOB, 0);
-  for (i = 1; i < HNHO_NEWTONS_HEADER_WORDS; i++)
+  for (i = 1; i < wide_header_words(); i++)
     call_wide_changed("a header word of -1", i, -1, i, -1, HNHO_HEADER_LIMIT, i);
   for (i = 0; i < sizeof no_zeros / sizeof *no_zeros; i++) {
     call_wide_changed("word 10", 10, no_zeros[i], 11, 0, HNHO_HEADER_LIMIT, 10);
     call_wide_changed("word 11", 10, 0, 11, no_zeros[i], HNHO_HEADER_LIMIT, 11);
     call_wide_changed("words 10 and 11", 10, no_zeros[i], 11, no_zeros[i], HNHO_HEADER_LIMIT, 10);
     call_wide_changed("word 11 and a lower one", HNHO_WORD_C, 513, 11, no_zeros[i], HNHO_HEADER_LIMIT, HNHO_WORD_C);
-    call_wide_changed("word 11 and an ordinate", 11, no_zeros[i], WIDE_LINE_AT, 5001, HNHO_HEADER_LIMIT, 11);
+    call_wide_changed("word 11 and an ordinate", 11, no_zeros[i], wide_line_at(), 5001, HNHO_HEADER_LIMIT, 11);
   }
 }
 
@@ -592,7 +652,7 @@ static void wide_effect_limits(void) {
   static const int32_t high[] = {23284, -23285, INT32_MIN, INT32_MAX};
   static const int32_t low[] = {0, 1, -1, INT32_MIN, INT32_MAX};
   static const int32_t marks[] = {0, 3, -1, INT32_MIN, INT32_MAX};
-  const size_t first = WIDE_EFFECTS_AT, second = WIDE_EFFECTS_AT + 3;
+  const size_t first = wide_effects_at(), second = wide_effects_at() + 3;
   size_t effect, i, j;
   for (effect = 0; effect < 2; effect++) {
     size_t at = effect == 0 ? first : second;
@@ -611,17 +671,17 @@ static void wide_effect_limits(void) {
   }
   call_wide_changed("a mark and the next value", first + 2, 3, second + 1, 23284, HNHO_TABLE_LIMIT, first + 2);
   call_wide_changed("a value and a row", second + 1, 23284, second + 3, 3, HNHO_TABLE_LIMIT, second);
-  call_wide_changed("a value and an ordinate", first + 1, 23284, WIDE_LINE_AT, 5001, HNHO_ORDINATE_LIMIT, WIDE_LINE_AT);
-  call_wide_changed("a value and a piece", first + 1, 23284, WIDE_LINE_AT + 1, -1, HNHO_PIECE_CROSSES, WIDE_LINE_AT);
+  call_wide_changed("a value and an ordinate", first + 1, 23284, wide_line_at(), 5001, HNHO_ORDINATE_LIMIT, wide_line_at());
+  call_wide_changed("a value and a piece", first + 1, 23284, wide_line_at() + 1, -1, HNHO_PIECE_CROSSES, wide_line_at());
 }
 
-/* 4 at a transverse ordinate; 6, 7 and 8 at the rows and records, which follow effects of three words. */
+/* 4 at the last transverse ordinate; 6, 7 and 8 at the rows and records, which follow effects of three words. */
 static void wide_table_limits(void) {
-  const size_t row = WIDE_EFFECTS_AT + 2 * 3, record = row + 2 * 4;
+  const size_t row = wide_effects_at() + 2 * 3, record = row + 2 * 4;
   const size_t words[] = {row, row + 1, row + 2, row + 3, row + 7, record, record + 1, record + 2, record + 5};
   size_t i;
-  call_wide_changed("a transverse ordinate", WIDE_EFFECTS_AT - 1, 1001, WIDE_EFFECTS_AT - 1, 1001, HNHO_ORDINATE_LIMIT,
-                    WIDE_EFFECTS_AT - 1);
+  call_wide_changed("a transverse ordinate", wide_effects_at() - 1, 1001, wide_effects_at() - 1, 1001, HNHO_ORDINATE_LIMIT,
+                    wide_effects_at() - 1);
   for (i = 0; i < sizeof words / sizeof *words; i++)
     call_wide_changed("a word of the table", words[i], 3001, words[i], 3001, HNHO_TABLE_LIMIT, words[i]);
   call_wide_changed("a chain that comes back", record + 5, 1, record + 5, 1, HNHO_CHAIN_RETURNS, row);
@@ -673,7 +733,7 @@ static void span_limits(void) {
     for (word = HNHO_WORD_H; word < HNHO_WORD_LEAST_SPAN; word++)
       call_wide_changed("no span for least and a lower word", word, -1, least, none, HNHO_HEADER_LIMIT, word);
     call_wide_changed("no span for least and word 11", least, none, 11, 1, HNHO_HEADER_LIMIT, least);
-    call_wide_changed("no span for least and an ordinate", least, none, WIDE_LINE_AT, 5001, HNHO_HEADER_LIMIT, least);
+    call_wide_changed("no span for least and an ordinate", least, none, wide_line_at(), 5001, HNHO_HEADER_LIMIT, least);
     for (j = 0; j < sizeof no_kinds / sizeof *no_kinds; j++) {
       call_wide_changed("no kind and no span for greatest", HNHO_WORD_DYNAMIC_KIND, no_kinds[j], greatest, none, HNHO_HEADER_LIMIT,
                         HNHO_WORD_DYNAMIC_KIND);
@@ -709,8 +769,32 @@ static void kinds_without_spans(void) {
   call_farm_changed("kind 4 in edition 4", HNHO_WORD_DYNAMIC_KIND, HNHO_DYNAMIC_SPANS, HNHO_HEADER_LIMIT, HNHO_WORD_DYNAMIC_KIND);
 }
 
+/* The line's ordinates at their limits and next to these, left and right: 5000 in edition 2 and 500 in edition 3. */
+static void wide_line_limits(void) {
+  const int32_t most = wide_second == 0 ? 5000 : 500;
+  const int32_t past[] = {most + 1, -most - 1, most == 500 ? 5000 : 50000, most == 500 ? -5000 : -50000, most + 65536, INT32_MIN};
+  const size_t left = wide_line_at(), right = left + 1;
+  size_t i;
+  for (wide_ordinate = -most; wide_ordinate <= most; wide_ordinate += 2 * most)
+    call_wide("ordinates at their limit", HNHO_ACCEPTED, 0);
+  wide_ordinate = 8;
+  for (i = 0; i < sizeof past / sizeof *past; i++) {
+    call_wide_changed("a left ordinate past its limit", left, past[i], left, past[i], HNHO_ORDINATE_LIMIT, left);
+    call_wide_changed("a right ordinate past its limit", right, past[i], right, past[i], HNHO_ORDINATE_LIMIT, right);
+    call_wide_changed("both ordinates past their limit", left, past[i], right, past[i], HNHO_ORDINATE_LIMIT, left);
+  }
+}
+
+/* The job without a dynamic effect. */
+static void wide_below_ground(void) {
+  wide_kind = HNHO_DYNAMIC_BELOW_GROUND;
+  wide_spans[0] = wide_spans[1] = 0;
+  wide_dynamic[0] = wide_dynamic[1] = 1000;
+}
+
+/* A job of edition 2 or 3, by all that both have. */
 static void wide_jobs(void) {
-  expect_accepted = expect_wide_job;
+  wide_below_ground();
   wide_values();
   wide_rows();
   wide_effects = 2;
@@ -720,12 +804,110 @@ static void wide_jobs(void) {
   wide_value[1] = -7;
   wide_lengths();
   wide_header();
+  wide_line_limits();
   wide_effect_limits();
   wide_table_limits();
   wide_kind = HNHO_DYNAMIC_SPANS;
   span_factors();
   span_limits();
   kinds_without_spans();
+  wide_below_ground();
+}
+
+static void newton_jobs(void) {
+  expect_accepted = expect_wide_job;
+  wide_jobs();
+  call_wide_changed("edition 2 as 3, an ordinate of 8 for a second width", HNHO_WORD_EDITION, HNHO_EDITION_TWO_CARRIAGEWAYS, 10, 0,
+                    HNHO_HEADER_LIMIT, HNHO_WORD_SECOND_W);
+  expect_accepted = expect_job_a;
+}
+
+/* Second widths at and next to their limits and where the number of lanes changes, with their own number of ordinates. */
+static void second_widths(void) {
+  static const struct {
+    int32_t width, lanes;
+  } due[] = {
+    {300, 1}, {599, 1}, {600, 2}, {969, 2}, {970, 3}, {1339, 3}, {1340, 4}, {1709, 4}, {1710, 5}, {2079, 5}
+  };
+  static const int32_t none[] = {299, 2080, 2100, 1};
+  size_t i;
+  for (i = 0; i < sizeof due / sizeof *due; i++) {
+    wide_second = due[i].width;
+    wide_second_lanes = due[i].lanes;
+    call_wide("a second width", HNHO_ACCEPTED, 0);
+  }
+  for (i = 0; i < sizeof none / sizeof *none; i++) {
+    wide_second = none[i];
+    call_wide("no second width", HNHO_HEADER_LIMIT, HNHO_WORD_SECOND_W);
+  }
+  wide_second = 300;
+  wide_second_lanes = 1;
+}
+
+/* 2 at a second width that is none, after every other word of the header and before all else. */
+static void second_width_limits(void) {
+  static const int32_t none[] = {299, 2080, 0, -300, 65836, INT32_MIN, INT32_MAX};
+  const size_t second = HNHO_WORD_SECOND_W;
+  size_t word, i;
+  for (i = 0; i < sizeof none / sizeof *none; i++) {
+    call_wide_changed("no second width", second, none[i], second, none[i], HNHO_HEADER_LIMIT, second);
+    for (word = HNHO_WORD_H; word < second; word++)
+      call_wide_changed("no second width and a lower word", word, -1, second, none[i], HNHO_HEADER_LIMIT, word);
+    call_wide_changed("no second width and an ordinate", second, none[i], wide_line_at(), 501, HNHO_HEADER_LIMIT, second);
+    call_wide_changed("no second width and a mark", second, none[i], wide_effects_at() + 2, 3, HNHO_HEADER_LIMIT, second);
+  }
+}
+
+/* 3 at the number of words that either width calls for, by its own ordinates, 50 cm apart. */
+static void second_word_counts(void) {
+  const size_t first = HNHO_WORD_W, second = HNHO_WORD_SECOND_W, words = wide_words();
+  call_wide_changed("a second width of 301", second, 301, second, 301, HNHO_WORD_COUNT, words + 1);
+  call_wide_changed("a second width of 350", second, 350, second, 350, HNHO_WORD_COUNT, words + 1);
+  call_wide_changed("a second width of 351", second, 351, second, 351, HNHO_WORD_COUNT, words + 2);
+  call_wide_changed("a second width of 2079", second, 2079, second, 2079, HNHO_WORD_COUNT, words + 36);
+  call_wide_changed("a first width of 301", first, 301, first, 301, HNHO_WORD_COUNT, words + 1);
+  call_wide_changed("both widths of 301", first, 301, second, 301, HNHO_WORD_COUNT, words + 2);
+  call_wide_changed("both widths of 2079", first, 2079, second, 2079, HNHO_WORD_COUNT, words + 72);
+  call_wide_changed("ordinates 10 cm apart", HNHO_WORD_G, 10, HNHO_WORD_G, 10, HNHO_WORD_COUNT, words + 48);
+  call_wide_changed("a second width of 301 and an ordinate", second, 301, wide_line_at(), 501, HNHO_WORD_COUNT, words + 1);
+  /* edition 2 has a word fewer in the header, and no second carriageway */
+  call_wide_changed("edition 3 as 2", HNHO_WORD_EDITION, HNHO_EDITION_NEWTONS, 10, 0, HNHO_WORD_COUNT, words - 1 - WIDE_ACROSS);
+  /* edition 1 has three fewer, and two words an effect */
+  call_wide_changed("edition 3 as 1", HNHO_WORD_EDITION, HNHO_EDITION_HIGHWAY, 10, 0, HNHO_WORD_COUNT, words - 3 - WIDE_ACROSS - 2);
+  call_wide_changed("edition 3 as 4", HNHO_WORD_EDITION, HNHO_EDITION_RURAL, 10, 1, HNHO_HEADER_LIMIT, HNHO_WORD_E);
+}
+
+/* 4 at each ordinate of either transverse section, at the lower of two, and before 5. The one centre is at the fourth of each, so that
+ * the others count nothing. */
+static void second_sections(void) {
+  static const int32_t past[] = {1001, -1001, 5000, 65541, INT32_MIN, INT32_MAX};
+  const size_t line = wide_line_at(), first = wide_across_at(), second = wide_second_at(), end = wide_effects_at();
+  size_t at, i;
+  expect(first == 15 && second == 22 && end == 29, "the places of the sections");
+  for (at = first; at < end; at++)
+    for (i = 0; i < sizeof past / sizeof *past; i++) {
+      call_wide_changed("a transverse ordinate", at, past[i], at, past[i], HNHO_ORDINATE_LIMIT, at);
+      call_wide_changed("two transverse ordinates", at, past[i], end - 1, -1001, HNHO_ORDINATE_LIMIT, at);
+      call_wide_changed("a transverse ordinate and one of the line", at, past[i], line + 1, 501, HNHO_ORDINATE_LIMIT, line + 1);
+      call_wide_changed("a transverse ordinate and a piece", at, past[i], line + 1, -8, HNHO_ORDINATE_LIMIT, at);
+      call_wide_changed("a transverse ordinate and a mark", at, past[i], end + 2, 3, HNHO_ORDINATE_LIMIT, at);
+    }
+  for (at = first; at < end; at++)
+    if (at != first + 3 && at != second + 3) {
+      call_wide_changed("a transverse ordinate of 1000", at, 1000, at, 1000, HNHO_ACCEPTED, 0);
+      call_wide_changed("a transverse ordinate of -1000", at, -1000, at, -1000, HNHO_ACCEPTED, 0);
+    }
+}
+
+static void two_carriageways(void) {
+  expect_accepted = expect_wide_job;
+  wide_second = 300;
+  wide_second_lanes = 1;
+  wide_jobs();
+  second_widths();
+  second_width_limits();
+  second_word_counts();
+  second_sections();
   expect_accepted = expect_job_a;
 }
 
@@ -821,6 +1003,32 @@ static void account_reader(void) {
   take_back(b, "a byte beside the account changed");
 }
 
+/* The lanes of the first carriageway, then those of the second, and no more. */
+static void lane_reader(void) {
+  static const struct {
+    int64_t first, second, n[HNHO_LANES];
+  } due[] = {
+    {0, 0, {0}},
+    {1, 0, {1}},
+    {5, 0, {5, 5, 5, 5, 5}},
+    {1, 1, {1, 1}},
+    {3, 2, {3, 3, 3, 2, 2}},
+    {2, 5, {2, 2, 5, 5, 5, 5, 5}},
+    {5, 5, {5, 5, 5, 5, 5, 5, 5, 5, 5, 5}}
+  };
+  struct hnho_account a;
+  size_t i, j;
+  step = "hnho_lane_n";
+  memset(&a, 0, sizeof a);
+  for (i = 0; i < sizeof due / sizeof *due; i++) {
+    a.first_lanes = due[i].first;
+    a.second_lanes = due[i].second;
+    for (j = 0; j < HNHO_LANES; j++)
+      expect(hnho_lane_n(&a, j) == due[i].n[j], "a lane's n");
+    expect(hnho_lane_n(&a, HNHO_LANES) == 0, "past the lanes");
+  }
+}
+
 static void layout(void) {
   step = "hnho_layout";
   expect(HNHO_LAYOUT == 1, "the header's layout");
@@ -842,7 +1050,9 @@ static void refusal_texts(void) {
       expect(strcmp(text, hnho_refusal_text(j)) != 0, "is another number's");
   }
   expect(strstr(hnho_refusal_text(HNHO_HEADER_LIMIT), host) != NULL, "does not tell of a short buffer");
-  expect(strstr(hnho_refusal_text(HNHO_NOT_A_JOB), "in edition 4 under 11, in edition 2 under 12") != NULL, "does not tell of headers");
+  expect(strstr(hnho_refusal_text(HNHO_NOT_A_JOB), "in edition 4 under 11, in edition 2 under 12, in edition 3 under 13") != NULL,
+         "does not tell of headers");
+  expect(strstr(hnho_refusal_text(HNHO_ORDINATE_LIMIT), "-500 to 500 with two carriageways") != NULL, "does not tell of the limits");
   for (i = -1; i < 256; i += i < 0 ? texts + 1 : 1)
     expect(strcmp(hnho_refusal_text(i), hnho_refusal_text(texts - 1)) == 0, "is of no refusal");
 }
@@ -866,15 +1076,18 @@ int main(int argc, char **argv) {
   number_reader();
   wide_writer();
   account_reader();
+  lane_reader();
   refusal_texts();
   null_pointers();
   job_lengths();
   account_lengths();
   patch_lengths();
   refusals();
+  steep_line();
   wide_ordinates();
   farm_jobs();
-  wide_jobs();
+  newton_jobs();
+  two_carriageways();
   printf("host_edges: %d calls answered as due\n", calls);
   return 0;
 }

@@ -85,8 +85,63 @@ arch_spans() {
 run 'the arch job with spans by sign' "$spans_text" '' < <(arch_spans)
 run "the arch job's first eleven words" $'refused 1 at 0\n' '' < <(head -c 44 examples/arch-job.bin)
 run "the arch job's header" $'refused 3 at 113\n' '' < <(head -c 48 examples/arch-job.bin)
+motorway_text='normal greatest 83867801 least -11451558
+overload greatest 148202927 least -21401111
+service greatest 279231531350 row 1 least 112240396700 row 1
+ultimate greatest 421516390500 row 2 least 121138333500 row 2
+'
+run 'the motorway job' "$motorway_text" '' <examples/motorway-job.bin
+run "the motorway job's first twelve words" $'refused 1 at 0\n' '' < <(head -c 48 examples/motorway-job.bin)
+run "the motorway job's header" $'refused 3 at 116\n' '' < <(head -c 52 examples/motorway-job.bin)
+
+# words WORD..: words from 0 to 65535
+words() {
+  local word bytes
+  for word; do
+    printf -v bytes '\\x%02x\\x%02x\\0\\0' $((word & 255)) $((word >> 8))
+    printf "$bytes"
+  done
+}
+
+# repeat COUNT COMMAND..: runs the command so many times
+repeat() {
+  local count=$1
+  shift
+  for ((; count > 0; count--)); do "$@"; done
+}
+
+# the longest job, of 16572 bytes, on lines of 0: its last row has its last record alone, which counts 3000 times 7 N.U, the last effect
+longest_job() {
+  words 3 1 1000 10 2079 1 1000 16 32 512 0 0 2079
+  head -c $((4 * (2 * 1000 + 2 * 209))) /dev/zero
+  repeat 15 words 0 0 1
+  words 7 0 1
+  repeat 31 words 1 0 0 0
+  words 2 0 0 512
+  repeat 511 words 1 0 0
+  words 16 3000 0
+}
+longest_text='normal greatest 0 least 0
+overload greatest 0 least 0
+service greatest 0 row 1 least 0 row 1
+ultimate greatest 21000 row 32 least 21000 row 32
+'
+longest_job >"$dir/longest.bin"
+[ "$(wc -c <"$dir/longest.bin")" -eq 16572 ] || fail 'the longest job is not of 16572 bytes'
+run 'the longest job' "$longest_text" '' <"$dir/longest.bin"
+run 'the longest job by a pipe' "$longest_text" '' < <(cat "$dir/longest.bin")
+run 'the longest job and one byte' $'refused 1 at 0\n' '' < <(cat "$dir/longest.bin"; printf '\0')
+
+# job_a_in BYTES: Job A with zeros behind it, so many bytes in all
+job_a_in() {
+  cat "$job"
+  head -c $(($1 - 340)) /dev/zero
+}
 run 'empty input' $'refused 1 at 0\n' '' </dev/null
-run 'input of 20000 bytes' $'refused 3 at 85\n' '' < <(cat "$job"; head -c 19660 /dev/zero)
+run 'input of 32767 bytes' $'refused 1 at 0\n' '' < <(job_a_in 32767)
+run 'input of 32768 bytes' $'refused 3 at 85\n' '' < <(job_a_in 32768)
+run 'input of 32769 bytes, the last one not read' $'refused 3 at 85\n' '' < <(job_a_in 32769)
+run 'input of 40001 bytes' $'refused 3 at 85\n' '' < <(job_a_in 40001)
 run 'a directory as input' '' $'standard input: Is a directory\n' </
 run_failing 'an input that fails half-way' $'standard input: Input/output error\n' <"$job"
 run_full 'a full device as output' $'standard output: No space left on device\n' <"$job"

@@ -7,9 +7,6 @@ pub mod trains;
 pub use header::ACCOUNT_BYTES;
 use second::account::{Account, Answer, Governing, Stand, State, Traffic};
 use second::checker;
-use second::job::Job;
-use second::lanes::lane_count;
-use second::words::words_of;
 
 extern "C" {
     fn hnho_solve(
@@ -47,7 +44,7 @@ pub fn judged(job: &[u8], patch: &[u8]) -> Result<Answer, String> {
     let mut after = patch.to_vec();
     let (answer, read) = solve_and_read(job, &mut after);
     checker::check(job, patch, &after, &answer)?;
-    check_rest(job, answer.refusal != 0, &read)?;
+    check_reserved(&read)?;
     Ok(answer)
 }
 
@@ -74,6 +71,8 @@ fn account(read: &header::Account) -> Account {
         lowering: stand(&read.lowering),
         service: state(&read.service),
         ultimate: state(&read.ultimate),
+        first_lanes: small(read.first_lanes),
+        second_lanes: small(read.second_lanes),
     }
 }
 
@@ -120,43 +119,11 @@ fn governing(read: &header::Governing) -> Governing {
     }
 }
 
-/// Whether what an account has beside document 01's is right: the number of lanes (0 on a refusal), nothing on lanes past them, and
-/// 0 in what is reserved.
-fn check_rest(job: &[u8], refused: bool, read: &header::Account) -> Result<(), String> {
-    let lanes = if refused {
-        0
-    } else {
-        lane_count(Job::decode(&words_of(job)).width)
-    };
-    same("first_lanes", read.first_lanes, lanes as i64)?;
-    zero("second_lanes", read.second_lanes)?;
-    zero("records_walked", read.records_walked)?;
-    for placement in [
-        &read.normal_greatest_placement,
-        &read.normal_least_placement,
-        &read.overload_greatest_placement,
-        &read.overload_least_placement,
-    ] {
-        for (number, lane) in (1..).zip(&placement.lane) {
-            if number > lanes {
-                zero(&format!("lane {number}'s entry"), lane.entry)?;
-                zero(&format!("lane {number}'s centre"), lane.centre)?;
-                zero(&format!("lane {number}'s factor"), lane.factor)?;
-            }
-        }
-    }
-    Ok(())
-}
-
-fn zero(what: &str, number: i64) -> Result<(), String> {
-    same(what, number, 0)
-}
-
-fn same(what: &str, found: i64, due: i64) -> Result<(), String> {
-    if found == due {
-        Ok(())
-    } else {
-        Err(format!("{what} is {found}, {due} is due"))
+/// Whether what is reserved is 0.
+fn check_reserved(read: &header::Account) -> Result<(), String> {
+    match read.records_walked {
+        0 => Ok(()),
+        number => Err(format!("records_walked is {number}, 0 is due")),
     }
 }
 

@@ -24,7 +24,7 @@ fn kernel_and_second_implementation_agree_on_chosen_cases() {
 fn usual_count(stream: Stream) -> u64 {
     match stream {
         Stream::One => 100_000,
-        Stream::Four | Stream::Two | Stream::Spans => 20_000,
+        Stream::Four | Stream::Two | Stream::Spans | Stream::Three => 20_000,
     }
 }
 

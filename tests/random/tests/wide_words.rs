@@ -7,6 +7,7 @@ use second::farm_job::farm_job;
 use second::job::{Job, Piece};
 use second::job_a::job_a;
 use second::line::section_bytes;
+use second::motorway_job::motorway_job;
 use second::train::{Axle, TrainCase, ALL_COUNT, RELIEVING_DROPPED, REPORT_BYTES};
 use second::wide_words::Ordinates;
 use second::words::{bytes_of, changed, words_of, Change};
@@ -47,8 +48,9 @@ fn line(pieces: i64) -> Vec<Piece> {
     (0..pieces).map(piece).collect()
 }
 
-/// Job A, and Job A with one piece, with the longest line, with five lanes and the most transverse ordinates; a farm job; an arch.
-fn jobs() -> [(&'static str, Job); 6] {
+/// Job A, and Job A with one piece, with the longest line, with five lanes and the most transverse ordinates; a farm job; an arch; a
+/// motorway, and it with ten lanes and the most transverse ordinates.
+fn jobs() -> [(&'static str, Job); 8] {
     let mut one_piece = job_a();
     (one_piece.piece_length, one_piece.pieces) = (50, line(1));
     let mut longest_line = job_a();
@@ -56,6 +58,11 @@ fn jobs() -> [(&'static str, Job); 6] {
     let mut five_lanes = job_a();
     (five_lanes.width, five_lanes.spacing) = (2079, 10);
     five_lanes.transverse = (0..209).map(|at| at * 71 % 2001 - 1000).collect();
+    let mut ten_lanes = motorway_job();
+    (ten_lanes.width, ten_lanes.spacing) = (2079, 10);
+    ten_lanes.transverse = five_lanes.transverse.clone();
+    ten_lanes.further_header[2] = 2079;
+    ten_lanes.second_transverse = (0..209).map(|at| at * 89 % 2001 - 1000).collect();
     [
         ("Job A", job_a()),
         ("one piece", one_piece),
@@ -63,6 +70,8 @@ fn jobs() -> [(&'static str, Job); 6] {
         ("five lanes", five_lanes),
         ("the farm job", farm_job()),
         ("the arch job", arch_job()),
+        ("the motorway job", motorway_job()),
+        ("ten lanes", ten_lanes),
     ]
 }
 

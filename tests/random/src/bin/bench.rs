@@ -8,11 +8,11 @@ use second::words::bytes_of;
 use std::hint::black_box;
 use std::time::Instant;
 
-/// A line's words; signs change every 7 pieces.
-fn line(pieces: i32) -> Vec<i32> {
+/// A line's words, up to `most` away from 0; signs change every 7 pieces.
+fn line(pieces: i32, most: i32) -> Vec<i32> {
     let ordinates = |i: i32| {
         let sign = if i / 7 % 2 == 0 { 1 } else { -1 };
-        [sign * (i * 37 % 5000 + 1), sign * (i * 53 % 5000 + 1)]
+        [sign * (i * 37 % most + 1), sign * (i * 53 % most + 1)]
     };
     (0..pieces).flat_map(ordinates).collect()
 }
@@ -26,33 +26,73 @@ fn largest_train(mode: u64) -> TrainCase {
     TrainCase {
         h: 1,
         pieces: 1000,
-        line: bytes_of(&line(1000)),
+        line: bytes_of(&line(1000, 5000)),
         train: (0..12).map(axle).collect(),
         mode,
         report: vec![0; REPORT_BYTES],
     }
 }
 
-/// The largest tables over N pieces of 1 dm: five lanes, 16 effects, 32 rows, 512 records.
-fn full(pieces: i32) -> Vec<u8> {
-    let (width, spacing, effects, rows, records) = (2079, 10, 16, 32, 512);
-    let mut words = vec![
-        1, 1, pieces, spacing, width, 1, 1300, effects, rows, records,
-    ];
-    words.extend(line(pieces));
-    let spaces = (width + spacing - 1) / spacing;
-    words.extend((0..=spaces).map(|i| i * 71 % 2001 - 1000));
-    for e in 0..effects {
-        words.extend([e * 60_000_000 - 450_000_000, 1 + e % 2]);
-    }
-    let length = records / rows;
-    for r in 0..rows {
+/// The widest carriageway, of five lanes, the closest transverse ordinates and the largest tables.
+const WIDTH: i32 = 2079;
+const SPACING: i32 = 10;
+const EFFECTS: i32 = 16;
+const ROWS: i32 = 32;
+const RECORDS: i32 = 512;
+
+/// The transverse ordinates of a carriageway; `step` tells two of them apart.
+fn across(step: i32) -> impl Iterator<Item = i32> {
+    let spaces = (WIDTH + SPACING - 1) / SPACING;
+    (0..=spaces).map(move |i| i * step % 2001 - 1000)
+}
+
+/// An effect's value in kN·U, and its mark.
+fn effect(e: i32) -> (i32, i32) {
+    (e * 60_000_000 - 450_000_000, 1 + e % 2)
+}
+
+/// The rows, each with a chain of as many records as any other's, and the records.
+fn table() -> Vec<i32> {
+    let mut words = Vec::new();
+    let length = RECORDS / ROWS;
+    for r in 0..ROWS {
         words.extend([1 + r % 2, 1 + r / 2 % 2, 1500, r * length + 1]);
     }
-    for c in 1..=records {
+    for c in 1..=RECORDS {
         let next = if c % length == 0 { 0 } else { c + 1 };
         words.extend([(c - 1) % length + 1, 1000, next]);
     }
+    words
+}
+
+/// The largest tables over N pieces of 1 dm: five lanes, 16 effects, 32 rows, 512 records.
+fn full(pieces: i32) -> Vec<u8> {
+    let mut words = vec![
+        1, 1, pieces, SPACING, WIDTH, 1, 1300, EFFECTS, ROWS, RECORDS,
+    ];
+    words.extend(line(pieces, 5000));
+    words.extend(across(71));
+    for (value, mark) in (0..EFFECTS).map(effect) {
+        words.extend([value, mark]);
+    }
+    words.extend(table());
+    bytes_of(&words)
+}
+
+/// The longest job of edition 3: the same with ten lanes, on two carriageways.
+fn full_on_two_carriageways() -> Vec<u8> {
+    let pieces = 1000;
+    let mut words = vec![
+        3, 1, pieces, SPACING, WIDTH, 1, 1300, EFFECTS, ROWS, RECORDS, 0, 0, WIDTH,
+    ];
+    words.extend(line(pieces, 500));
+    words.extend(across(71));
+    words.extend(across(89));
+    for (value, mark) in (0..EFFECTS).map(effect) {
+        let in_newtons = 1000 * i64::from(value);
+        words.extend([in_newtons as i32, (in_newtons >> 32) as i32, mark]);
+    }
+    words.extend(table());
     bytes_of(&words)
 }
 
@@ -100,9 +140,19 @@ fn main() {
             second::arch_job::arch_job().with_spans(240, 270).bytes(),
             20_000,
         ),
+        (
+            "motorway (the example, N 14)",
+            second::motorway_job::motorway_job().bytes(),
+            20_000,
+        ),
         ("N 250, full tables", full(250), 1_000),
         ("N 500, full tables", full(500), 1_000),
         ("largest (N 1000, full tables)", full(1000), 1_000),
+        (
+            "and two carriageways (ten lanes)",
+            full_on_two_carriageways(),
+            1_000,
+        ),
     ];
     let trains = [
         ("truck (3 axles, N 50)", truck(1), 20_000),
