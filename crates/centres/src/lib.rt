@@ -165,7 +165,7 @@ fn spans(near: &[u8], far: &[u8], d: Decks) -> [Span; 10]
 // n of the second carriageway as a factor of the unit: 1 where there is none.
 fn at_least_one(n: usize) -> usize
     requires { ⌜ n ≤ 5 ⌝ }
-    ensures { λ r. ⌜ r ≡ max 1 n ⌝ }
+    ensures { λ r. ⌜ (r ≡ max 1 n) × (r ≤ 5) ⌝ }
 {
     if n == 0 {
         return 1;

@@ -1,5 +1,4 @@
 pub mod Figures
-pub mod TwoCarriageways
 pub mod Pigeonhole
 pub mod Chains
 pub mod Determined
