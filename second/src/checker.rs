@@ -1,4 +1,4 @@
-//! Judges an answer of any origin: every refusal, value, governing row and
+//! Judges an answer of any origin: every refusal, value, governing row, lane count and
 //! patch byte by equality with the definitions; every placement and omission
 //! by the rules it must keep and the value it must give, since 01 leaves
 //! equally good ones free. So is the k that 02 "Farm bridges" has shown.

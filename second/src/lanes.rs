@@ -85,11 +85,11 @@ fn carriageways(job: &Job) -> impl Iterator<Item = Carriageway<'_>> {
 
 /// A lane's carriageway, and its number there, from 0 on.
 fn on_carriageway(job: &Job, lane: usize) -> (Carriageway<'_>, usize) {
-    let numbered = carriageways(job).flat_map(|carriageway| {
+    let mut numbered = carriageways(job).flat_map(|carriageway| {
         let numbers = 0..lane_count(carriageway.width);
         numbers.map(move |number| (carriageway, number))
     });
-    numbered.into_iter().nth(lane).expect("a lane of the job")
+    numbered.nth(lane).expect("a lane of the job")
 }
 
 /// The centres open to a lane's element. Of its carriageway's lanes, number i spans i

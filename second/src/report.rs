@@ -1,5 +1,5 @@
-//! 01 "The host and the program": what the program prints, and a page with the
-//! whole account.
+//! 01 "The host and the program" and 02 "Two carriageways": what the program prints, and
+//! a page with the whole account.
 
 use crate::account::{Account, Answer, Governing, Lane, Stand, State, Traffic, UNLOADED};
 

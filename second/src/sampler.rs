@@ -1,6 +1,6 @@
 //! Tries to beat a report with arrangements, rows, choices of k and omissions
-//! drawn at random (01 "Arrangements, for demand 3", 02 "Farm bridges" and "Additional
-//! overload lanes"). A right report is never beaten.
+//! drawn at random (01 "Arrangements, for demand 3", 02 "Farm bridges", "Additional
+//! overload lanes" and "Two carriageways"). A right report is never beaten.
 //!
 //! The draws lean towards what goes far: loaded k-ths of one sign, axles at and
 //! near good stands, centres at and near limits and transverse ordinates, larger

@@ -13,7 +13,6 @@ use crate::loads::{
     additional_factors, reduction, Direction, Element, Live, Question, OVERLOAD_ELEMENT_TWENTIETHS,
     X_OVER, X_TIMES,
 };
-use std::collections::BTreeMap;
 
 /// An element standing in a lane, at its furthest for a question.
 #[derive(Debug, Clone, Copy, PartialEq, Eq)]
@@ -153,40 +152,6 @@ fn best_normal(hn: &[LaneElement], question: Question) -> Loading {
     first_loading(loadings, question)
 }
 
-/// Overload: one lane carries HO at 20; the other loaded lanes are HN, each at a
-/// factor of its own, those of their number assigned in any way. Lane after lane each
-/// load that is left is tried; of the loadings that have given out the same so far the
-/// furthest is kept, since what the further lanes add is the same for all of them. In
-/// the end those count that have given out the factors of their own number.
-fn best_overload(hn: &[LaneElement], ho: &[LaneElement], question: Question) -> Loading {
-    let factors = additional_factors(hn.len() - 1);
-    let mut kept = BTreeMap::from([(GivenOut::NOTHING, Loading::EMPTY)]);
-    for lane in 0..hn.len() {
-        let mut with_lane = kept.clone();
-        for (given_out, loading) in kept {
-            for (load, given_out) in given_out.with_one_more(&factors) {
-                let tried = loading.with(lane, load, &hn[lane], &ho[lane]);
-                keep_the_further(&mut with_lane, given_out, tried, question);
-            }
-        }
-        kept = with_lane;
-    }
-    let lawful = kept.into_iter().filter(|(given_out, _)| given_out.lawful());
-    first_loading(lawful.map(|(_, loading)| loading), question)
-}
-
-fn keep_the_further(
-    kept: &mut BTreeMap<GivenOut, Loading>,
-    given_out: GivenOut,
-    tried: Loading,
-    question: Question,
-) {
-    let best = kept.entry(given_out).or_insert(tried);
-    if tried.goes_before(best, question) {
-        *best = tried;
-    }
-}
-
 /// What a loaded lane carries in overload: HO, or HN at a factor in twentieths.
 #[derive(Debug, Clone, Copy, PartialEq, Eq)]
 enum Load {
@@ -194,43 +159,50 @@ enum Load {
     Additional(i64),
 }
 
-/// What lanes carry so far: whether HO, and which of the factors of additional lanes,
-/// a bit each, the first lane's the lowest.
-#[derive(Debug, Clone, Copy, PartialEq, Eq, PartialOrd, Ord)]
-struct GivenOut {
-    ho: bool,
-    factors: u32,
-}
-
-impl GivenOut {
-    const NOTHING: GivenOut = GivenOut {
-        ho: false,
-        factors: 0,
-    };
-
-    /// One more load that is left, each with what is given out then. Of equal factors
-    /// the first is given out first.
-    fn with_one_more(self, factors: &[i64]) -> Vec<(Load, GivenOut)> {
-        let mut loads = vec![];
-        if !self.ho {
-            loads.push((Load::Ho, GivenOut { ho: true, ..self }));
-        }
-        let is_left = |number: usize| self.factors & (1 << number) == 0;
-        for (number, &factor) in factors.iter().enumerate() {
-            let an_equal_is_first =
-                number > 0 && factors[number - 1] == factor && is_left(number - 1);
-            if is_left(number) && !an_equal_is_first {
-                let factors = self.factors | 1 << number;
-                loads.push((Load::Additional(factor), GivenOut { factors, ..self }));
+/// Overload: one lane carries HO at 20; the other loaded lanes are HN, each at a
+/// factor of its own, those of their number assigned in any way.
+///
+/// The loads are numbered, HO first, then the factors of the first additional lane and
+/// of those after it. Lane after lane each load is tried that is not given out yet. Of
+/// the loadings that have given out the same loads the one that goes before the others
+/// is kept, since what further lanes can add is the same for all of them. In the end
+/// those count that have given out HO and the factors of so many additional lanes.
+fn best_overload(hn: &[LaneElement], ho: &[LaneElement], question: Question) -> Loading {
+    let factors = additional_factors(hn.len() - 1).into_iter();
+    let loads: Vec<Load> = [Load::Ho]
+        .into_iter()
+        .chain(factors.map(Load::Additional))
+        .collect();
+    // By what is given out, a bit a load.
+    let mut kept: Vec<Option<Loading>> = vec![None; 1 << loads.len()];
+    kept[0] = Some(Loading::EMPTY);
+    for lane in 0..hn.len() {
+        // A lane's load makes the number larger, so none gives out two of them.
+        for given_out in (0..kept.len()).rev() {
+            let Some(loading) = kept[given_out] else {
+                continue;
+            };
+            for number in numbers_left(&loads, given_out) {
+                let tried = loading.with(lane, loads[number], &hn[lane], &ho[lane]);
+                let best = &mut kept[given_out | 1 << number];
+                if best.is_none_or(|best| tried.goes_before(&best, question)) {
+                    *best = Some(tried);
+                }
             }
         }
-        loads
     }
+    let first_so_many = (1..=loads.len()).map(|count| (1 << count) - 1);
+    let lawful = first_so_many.filter_map(|given_out: usize| kept[given_out]);
+    first_loading(lawful, question)
+}
 
-    /// HO once, and of the factors the first so many.
-    fn lawful(self) -> bool {
-        self.ho && (self.factors + 1).is_power_of_two()
-    }
+/// The loads that are not given out; of equal ones the first alone.
+fn numbers_left(loads: &[Load], given_out: usize) -> impl Iterator<Item = usize> + '_ {
+    let is_left = move |number: usize| given_out & (1 << number) == 0;
+    let after_an_equal = move |number: usize| {
+        number > 0 && loads[number - 1] == loads[number] && is_left(number - 1)
+    };
+    (0..loads.len()).filter(move |&number| is_left(number) && !after_an_equal(number))
 }
 
 impl Loading {

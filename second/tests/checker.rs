@@ -708,7 +708,7 @@ fn no_changed_value_or_row_passes() {
     for seed in 0..1500 {
         let case = case(Stream::ALL[seed as usize % 5], seed / 5);
         let call = Call::new(&case.job, &case.patch);
-        let changes: [Change; 12] = [
+        let changes: [Change; 14] = [
             |call| call.answer.account.normal_greatest.value -= 1,
             |call| call.answer.account.normal_least.value += 1,
             |call| call.answer.account.overload_greatest.value -= 1,
@@ -720,6 +720,8 @@ fn no_changed_value_or_row_passes() {
             |call| call.answer.account.service.present ^= 1,
             |call| call.answer.account.service.greatest.k += 1,
             |call| call.answer.account.ultimate.least.k += 1,
+            |call| call.answer.account.first_lanes += 1,
+            |call| call.answer.account.second_lanes += 1,
             |call| call.answer.place += 1,
         ];
         for (number, change) in changes.iter().enumerate() {

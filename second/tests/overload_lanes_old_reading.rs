@@ -24,21 +24,25 @@ fn old_traffic(job: &Job, account: &Account, live: Live, question: Question) -> 
 fn normal(job: &Job, question: Question) -> i64 {
     let lanes = InLanes::of(job, question);
     let sums = (0..1_u32 << lanes.hn.len()).map(|set| {
-        let r = [20, 20, 18, 16, 14, 12, 11, 11, 11, 11, 11][set.count_ones() as usize];
+        let r = [20, 20, 18, 16, 14, 12][set.count_ones() as usize];
         let loaded = (0..lanes.hn.len()).filter(|lane| set >> lane & 1 == 1);
         r * loaded.map(|lane| lanes.hn[lane]).sum::<i128>()
     });
     effect(job, question, lanes.furthest(sums))
 }
 
-/// Whether a case's overload moves. It does so with three lanes or more alone; nothing
-/// becomes milder, no state moves without it, and normal stays.
+/// Whether the overload of a case with one carriageway moves. It does so with three
+/// lanes or more alone; nothing becomes milder, no state moves without it, and normal
+/// stays.
 fn moves(name: &str, case: &Case) -> bool {
     let answer = solve(&case.job, &mut case.patch.clone());
     if answer.refusal != 0 {
         return false;
     }
     let job = Job::decode(&words_of(&case.job));
+    if job.second_width().is_some() {
+        return false;
+    }
     let account = answer.account;
     let moved = Question::BOTH.map(|question| {
         let found = account.traffic(Live::Normal, question).value;
@@ -72,7 +76,7 @@ fn stored_cases() {
 
 #[test]
 fn generated_cases() {
-    for stream in Stream::ALL {
+    for stream in [Stream::One, Stream::Four, Stream::Two, Stream::Spans] {
         let moved = (0..3000).filter(|&seed| {
             let name = format!("{stream:?}, seed {seed}");
             moves(&name, &case(stream, seed))

@@ -7,7 +7,7 @@ use mathlib.Core.List.{List, [], _∷_, _++_}
 use lib.IntN.{ℤ, pos}
 use lib.ListN.{replicate}
 use Rattle.numbers.specs.NumberBytes.{numbersBytes}
-use Rattle.placements.specs.PlacementNumbers.{placementsNumbers, CentresFit}
+use Rattle.placements.specs.PlacementNumbers.{placementsNumbers}
 use Rattle.model.specs.Numbers.{sideNumber}
 use Rattle.model.specs.declared.Position.{Position}
 use Rattle.model.specs.declared.Traffic.{Traffic}
@@ -72,10 +72,8 @@ abbrev pub RowsFit : State → Type 0
 RowsFit Absent = Unit {0}
 RowsFit (Reported greatest least) = (greatest .row < 2 ^ 63) × (least .row < 2 ^ 63)
 
--- so is every count of an account
+-- so are these and the numbers of lanes
 pub record CountsFit (a : Account) : Type 0 where
-  pub normal : CentresFit (a .normal)
-  pub overload : CentresFit (a .overload)
   pub service : RowsFit (a .service)
   pub ultimate : RowsFit (a .ultimate)
   pub lanes : a .lanes < 2 ^ 63

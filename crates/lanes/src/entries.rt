@@ -17,7 +17,7 @@ ghost use Rattle.lanes.specs.Entries.{LineEffectsFit, LoadsFit, otherIn,
 pub(crate) struct Chosen {
     pub value: i64,
     pub sense: Sense,
-    pub centre: usize,
+    pub centre: u32,
 }
 
 // The centre with the question's best ordinate.
@@ -53,13 +53,13 @@ pub(crate) fn choose(q: Question, span: Span, e: Effects) -> Chosen
         return Chosen {
             value: down,
             sense: Sense::Lowering,
-            centre: l.at as usize,
+            centre: l.at,
         };
     }
     Chosen {
         value: up,
         sense: Sense::Raising,
-        centre: r.at as usize,
+        centre: r.at,
     }
 }
 

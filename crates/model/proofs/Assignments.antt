@@ -30,8 +30,8 @@ use Rattle.model.specs.Traffic.{additionalLanes, assigned, overloadSum, 
 abbrev valueOf : List ℤ → ℕ → ℤ
 valueOf values i = getD values i (pos 0)
 
--- the factors of four additional lanes
-additional-lanes : listOf 4 additional ≡ 20 ∷ 18 ∷ 16 ∷ 14 ∷ []
+-- the factors of nine additional lanes
+additional-lanes : listOf 9 additional ≡ 20 ∷ 18 ∷ 16 ∷ 14 ∷ 12 ∷ 11 ∷ 11 ∷ 11 ∷ 11 ∷ []
 unfolding twentieths
 additional-lanes = refl
 

@@ -1,4 +1,5 @@
 pub mod Figures
+pub mod TwoCarriageways
 pub mod Pigeonhole
 pub mod Chains
 pub mod Determined

@@ -1,5 +1,5 @@
 -- An account's placements as numbers.
-use Prim.Native.Nat.{ℕ, zero, suc, _<_, _^_}
+use Prim.Native.Nat.{ℕ, zero, suc}
 use mathlib.Core.List.{List, [], _∷_, _++_}
 use lib.IntN.{ℤ, pos}
 use Rattle.model.specs.Numbers.{entryNumber}
@@ -24,7 +24,3 @@ placementNumbers p = pos (p .set) ∷ lanesNumbers p 10
 -- the placements of a live kind's greatest and least value
 abbrev pub placementsNumbers : Traffic → List ℤ
 placementsNumbers t = placementNumbers (t .greatest .placement) ++ placementNumbers (t .least .placement)
-
--- a live kind's centres, in n-ths of a cm of their carriageways, are read back as they are by a reader of signed numbers
-abbrev pub CentresFit : Traffic → Type 0
-CentresFit t = (i : ℕ) → (laneAt (t .greatest .placement) i .centre < 2 ^ 63) × (laneAt (t .least .placement) i .centre < 2 ^ 63)

@@ -6,13 +6,12 @@ use model::Sense;
 use model::Side;
 use model::Traffic;
 ghost use mathlib.Core.Path.{_≡_};
-ghost use Prim.Native.Nat.{ℕ, _+_, _^_, _≤_, _<_};
+ghost use Prim.Native.Nat.{_+_, _≤_, _<_};
 ghost use lib.ListN.{length};
 ghost use Rattle.model.specs.Numbers.{sideNumber, entryNumber};
-ghost use Rattle.model.specs.Answered.{laneAt};
 ghost use Rattle.model.specs.declared.Entry.the-variants.{Hn, Ho};
 ghost use Rattle.numbers.specs.NumberBytes.{Written};
-ghost use Rattle.placements.specs.PlacementNumbers.{laneNumbers, lanesNumbers, placementNumbers, placementsNumbers, CentresFit};
+ghost use Rattle.placements.specs.PlacementNumbers.{laneNumbers, lanesNumbers, placementNumbers, placementsNumbers};
 
 // 0 left, 1 right.
 pub fn side_number(s: Side) -> u64
@@ -58,7 +57,6 @@ fn entry_number(e: Entry) -> u64
 // A lane's entry, its centre and its factor.
 fn put_lane(out: &mut [u8], at: usize, l: Lane) -> usize
     requires { ⌜ at + 24 ≤ length (now out) ⌝ }
-    requires { ⌜ l .centre < 2 ^ 63 ⌝ }
     ensures { λ r. ⌜ Written (now (out .entry)) at (laneNumbers l) (now (out .exit)) r ⌝ }
 {
     let entry = l.entry;
@@ -70,7 +68,6 @@ fn put_lane(out: &mut [u8], at: usize, l: Lane) -> usize
 // The lanes of a placement.
 fn put_lanes(out: &mut [u8], at: usize, p: Placement) -> usize
     requires { ⌜ at + 240 ≤ length (now out) ⌝ }
-    requires { ⌜ ((i : ℕ) → laneAt p i .centre < 2 ^ 63) ⌝ }
     ensures { λ r. ⌜ Written (now (out .entry)) at (lanesNumbers p 10) (now (out .exit)) r ⌝ }
 {
     let mut end = at;
@@ -84,7 +81,6 @@ fn put_lanes(out: &mut [u8], at: usize, p: Placement) -> usize
 // A lane set and the lanes.
 fn put_placement(out: &mut [u8], at: usize, p: Placement) -> usize
     requires { ⌜ at + 248 ≤ length (now out) ⌝ }
-    requires { ⌜ ((i : ℕ) → laneAt p i .centre < 2 ^ 63) ⌝ }
     ensures { λ r. ⌜ Written (now (out .entry)) at (placementNumbers p) (now (out .exit)) r ⌝ }
 {
     let end = numbers::put_count(out, at, p.set as u64);
@@ -94,7 +90,6 @@ fn put_placement(out: &mut [u8], at: usize, p: Placement) -> usize
 // The placements of the two values of a live kind.
 pub fn put_placements(out: &mut [u8], at: usize, t: Traffic) -> usize
     requires { ⌜ at + 496 ≤ length (now out) ⌝ }
-    requires { ⌜ CentresFit t ⌝ }
     ensures { λ r. ⌜ Written (now (out .entry)) at (placementsNumbers t) (now (out .exit)) r ⌝ }
 {
     let greatest = t.greatest;

@@ -213,7 +213,14 @@ fn row(
 {
     let edition = head.edition;
     match edition {
-        Edition::First | Edition::Second | Edition::Third => listed(effects, rows, records, head, live, r),
+        Edition::First | Edition::Second | Edition::Third => listed(
+            effects,
+            rows,
+            records,
+            head,
+            live,
+            r,
+        ),
         Edition::Fourth => built_in(effects, live, r),
     }
 }

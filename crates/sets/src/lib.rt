@@ -55,7 +55,7 @@ fn precedes(q: Question, values: [i64; 10], k: usize, i: usize) -> bool
 }
 
 // 1 where lane k precedes lane i, else 0.
-fn ahead(q: Question, values: [i64; 10], k: usize, i: usize) -> usize
+fn ahead(q: Question, values: [i64; 10], k: usize, i: usize) -> u32
     requires { ⌜ (k < 10) × (i < 10) × Within hnLaneMost (valueAt values k) × Within hnLaneMost (valueAt values i) ⌝ }
     ensures { λ r. ⌜ (r ≡ (if precedesOf q (valueAt values) k i then 1 else 0)) × (r ≤ 1) ⌝ }
 {
@@ -66,11 +66,11 @@ fn ahead(q: Question, values: [i64; 10], k: usize, i: usize) -> usize
 }
 
 // Lane i's rank among n lanes.
-fn rank(q: Question, values: [i64; 10], n: usize, i: usize) -> usize
+fn rank(q: Question, values: [i64; 10], n: usize, i: usize) -> u32
     requires { ⌜ (n ≤ 10) × (i < n) × ((k : ℕ) → k < n → Within hnLaneMost (valueAt values k)) ⌝ }
     ensures { λ r. ⌜ r ≡ rankOf q n (valueAt values) i ⌝ }
 {
-    let mut r: usize = 0;
+    let mut r: u32 = 0;
     for k in 0..n {
         r += ahead(q, values, k, i);
     }
@@ -78,11 +78,11 @@ fn rank(q: Question, values: [i64; 10], n: usize, i: usize) -> usize
 }
 
 // The rank of each of n lanes.
-pub fn ranks(q: Question, values: [i64; 10], n: usize) -> [usize; 10]
+pub fn ranks(q: Question, values: [i64; 10], n: usize) -> [u32; 10]
     requires { ⌜ (n ≤ 10) × ((k : ℕ) → k < n → Within hnLaneMost (valueAt values k)) ⌝ }
     ensures { λ r. ⌜ Ranked q n (valueAt values) r ⌝ }
 {
-    let mut all = [0usize; 10];
+    let mut all = [0u32; 10];
     for i in 0..n {
         all[i] = rank(q, values, n, i);
     }
@@ -92,7 +92,7 @@ pub fn ranks(q: Question, values: [i64; 10], n: usize) -> [usize; 10]
 // ---- factors
 
 // The factors of 3.2.4 in twentieths, by a number of lanes.
-fn twentieths(m: u32) -> u32
+fn twentieths(m: u32) -> u16
     ensures { λ r. ⌜ (r ≡ twentiethsOf m) × (r ≤ 20) ⌝ }
 {
     if m < 2 {
@@ -134,7 +134,7 @@ pub struct Loading {
     pub value: i64,
     pub lane: usize,
     pub set: u32,
-    pub factors: [u32; 10],
+    pub factors: [u16; 10],
 }
 
 // The better of two loadings, the first at a tie.
@@ -157,7 +157,7 @@ fn reduction(set: u32) -> i64
 }
 
 // The lanes whose rank is below m.
-fn first_lanes(ranks: [usize; 10], values: [i64; 10], n: usize, m: usize) -> Group
+fn first_lanes(ranks: [u32; 10], values: [i64; 10], n: usize, m: u32) -> Group
     requires { ⌜ (n ≤ 10) × ((i : ℕ) → i < n → Within hnLaneMost (valueAt values i)) ⌝ }
     ensures { λ r. ⌜ FirstLanes n (numberAt ranks) (valueAt values) m r ⌝ }
 {
@@ -169,13 +169,13 @@ fn first_lanes(ranks: [usize; 10], values: [i64; 10], n: usize, m: usize) -> Gro
 }
 
 // The m first lanes under HN, at their r.
-fn normal_at(ranks: [usize; 10], hn: [i64; 10], n: usize, m: usize) -> Loading
+fn normal_at(ranks: [u32; 10], hn: [i64; 10], n: usize, m: u32) -> Loading
     requires { ⌜ (n ≤ 10) × ((i : ℕ) → i < n → Within hnLaneMost (valueAt hn i)) ⌝ }
     ensures { λ r. ⌜ FirstAt n (numberAt ranks) (valueAt hn) m r ⌝ }
 {
     let group = first_lanes(ranks, hn, n, m);
     let value = reduction(group.set) * group.sum;
-    let factors = [0u32; 10];
+    let factors = [0u16; 10];
     Loading {
         value,
         lane: 10,
@@ -185,13 +185,13 @@ fn normal_at(ranks: [usize; 10], hn: [i64; 10], n: usize, m: usize) -> Loading
 }
 
 // The best set of n lanes of a highway.
-pub fn best_normal(q: Question, ranks: [usize; 10], hn: [i64; 10], n: usize) -> Loading
+pub fn best_normal(q: Question, ranks: [u32; 10], hn: [i64; 10], n: usize) -> Loading
     requires { ⌜ (n ≤ 10) × Ranked q n (valueAt hn) ranks × ValuesFit q (among n hnLaneMost) n (valueAt hn) ⌝ }
     ensures { λ r. ⌜ ((ho : ℕ → ℤ) → LoadingRight q highway normal n (valueAt hn) ho r) ⌝ }
 {
     let mut best = normal_at(ranks, hn, n, 0);
     for m in 1..n + 1 {
-        best = better(q, best, normal_at(ranks, hn, n, m));
+        best = better(q, best, normal_at(ranks, hn, n, m as u32));
     }
     best
 }
@@ -199,15 +199,15 @@ pub fn best_normal(q: Question, ranks: [usize; 10], hn: [i64; 10], n: usize) -> 
 // ---- overload
 
 // The factor of additional lane m, counted from 0, in twentieths.
-fn additional(m: usize) -> u32
+fn additional(m: u32) -> u16
     requires { ⌜ m ≤ 10 ⌝ }
     ensures { λ r. ⌜ (r ≡ additionalOf m) × (r ≤ 20) ⌝ }
 {
-    twentieths(m as u32 + 1)
+    twentieths(m + 1)
 }
 
 // A lane's rank once the lane of rank `other` is left out.
-fn place(rank: usize, other: usize) -> usize
+fn place(rank: u32, other: u32) -> u32
     ensures { λ r. ⌜ (r ≡ (if ltb other rank then rank - 1 else rank)) × (r ≤ rank) ⌝ }
 {
     if other < rank {
@@ -217,7 +217,7 @@ fn place(rank: usize, other: usize) -> usize
 }
 
 // Lane i's factor beside HO in lane o, in twentieths: a lane that gives nothing stays unloaded.
-fn factor(q: Question, ranks: [usize; 10], hn: [i64; 10], o: usize, i: usize) -> u32
+fn factor(q: Question, ranks: [u32; 10], hn: [i64; 10], o: usize, i: usize) -> u16
     requires { ⌜ (o < 10) × (i < 10) × (numberAt ranks i ≤ 10) × Within hnLaneMost (valueAt hn i) ⌝ }
     ensures { λ r. ⌜ (r ≡ factorByRank q (numberAt ranks) (valueAt hn) o i) × (r ≤ 20) ⌝ }
 {
@@ -233,16 +233,16 @@ fn factor(q: Question, ranks: [usize; 10], hn: [i64; 10], o: usize, i: usize) ->
 // The additional lanes beside an HO lane, and each lane's factor.
 struct Others {
     group: Group,
-    factors: [u32; 10],
+    factors: [u16; 10],
 }
 
 // The lanes beside HO in lane o, each at its factor.
-fn beside(q: Question, ranks: [usize; 10], hn: [i64; 10], n: usize, o: usize) -> Others
+fn beside(q: Question, ranks: [u32; 10], hn: [i64; 10], n: usize, o: usize) -> Others
     requires { ⌜ (n ≤ 10) × (o < 10) × ((i : ℕ) → i < n → numberAt ranks i ≤ 10) × ((i : ℕ) → i < n → Within hnLaneMost (valueAt hn i)) ⌝ }
     ensures { λ r. ⌜ OthersRight n (factorByRank q (numberAt ranks) (valueAt hn) o) (valueAt hn) (r .group) (r .factors) ⌝ }
 {
     let mut group = Group { set: 0, sum: 0 };
-    let mut factors = [0u32; 10];
+    let mut factors = [0u16; 10];
     for i in 0..n {
         let f = factor(q, ranks, hn, o, i);
         group = joined(group, f > 0, i, (f as i64) * hn[i]);
@@ -252,7 +252,7 @@ fn beside(q: Question, ranks: [usize; 10], hn: [i64; 10], n: usize, o: usize) ->
 }
 
 // HO of this value in lane o, at 20, and the lanes beside it.
-fn overload_at(q: Question, ranks: [usize; 10], hn: [i64; 10], n: usize, ho: i64, o: usize) -> Loading
+fn overload_at(q: Question, ranks: [u32; 10], hn: [i64; 10], n: usize, ho: i64, o: usize) -> Loading
     requires { ⌜ (n ≤ 10) × (o < 10) × ((i : ℕ) → i < n → numberAt ranks i ≤ 10) × ((i : ℕ) → i < n → Within hnLaneMost (valueAt hn i)) × Within hoLaneMost ho ⌝ }
     ensures { λ r. ⌜ OverloadAt n (factorByRank q (numberAt ranks) (valueAt hn) o) (valueAt hn) ho o r ⌝ }
 {
@@ -271,7 +271,7 @@ fn overload_at(q: Question, ranks: [usize; 10], hn: [i64; 10], n: usize, ho: i64
 // The best HO lane of a highway, additional lanes and assignment.
 pub fn best_overload(
     q: Question,
-    ranks: [usize; 10],
+    ranks: [u32; 10],
     hn: [i64; 10],
     ho: [i64; 10],
     n: usize,

@@ -78,7 +78,7 @@ const PAST: [i64; 14] = [
     i64::MIN + (1 << 32) - 1,
 ];
 
-/// Words 0 that are not the short job's; 1 and 4 are other editions'.
+/// Words 0 that are not the short job's; 1, 3 and 4 are other editions'.
 const OTHER_EDITIONS: [i32; 9] = [0, 1, 3, 4, 5, -2, 258, 0x0200_0000, i32::MIN];
 
 /// Changes of the short job's words.

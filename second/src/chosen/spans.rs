@@ -57,7 +57,7 @@ const WORDS_10: [i32; 11] = [-1, 0, 1, 119, 120, 121, 122, 2000, 2001, i32::MIN,
 /// What is put at word 6 of editions that have no kind 4.
 const VALUES_ELSEWHERE: [i32; 10] = [0, 1, 120, 121, 1000, 1300, 2000, 2001, i32::MIN, i32::MAX];
 
-/// Words 0 that are not the short job's; 1 and 4 are other editions'.
+/// Words 0 that are not the short job's; 1, 3 and 4 are other editions'.
 const OTHER_EDITIONS: [i32; 6] = [0, 1, 3, 4, 5, 258];
 
 /// No fault of the short job, and those that come after 2.

@@ -107,7 +107,7 @@ pub const LARGEST: [Change; 7] = [
     (9, 512),
 ];
 
-/// Kind 4 is edition 2's alone, whatever word 6 is.
+/// Kind 4 is that of editions 2 and 3 alone, whatever word 6 is.
 #[track_caller]
 pub fn no_spans_by_sign(sound: &[i32]) {
     for value in [1, 120, 121, 1000, 2000, 0, -1, 2001, i32::MIN, i32::MAX] {

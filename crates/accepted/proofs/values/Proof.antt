@@ -29,22 +29,26 @@ effect-requires-3 c κs = c .before .before .before .pre .1 .0 .near
 effect-requires-4 : tie.Need-effect-requires-4
 effect-requires-4 c κs = c .before .before .before .before .pre .1 .1 .near
 
+-- from where all line effects are formed back to the start
+abbrev begun : tie.After-effect4 → tie.Start
+begun c = c .before .before .before .before .before
+
 -- the limits of both questions, so that only what is ensured tells their factors apart
 factor-requires : tie.Need-factor-requires
-factor-requires c κs = let r = c .before .before .before .before .before .pre .0 in search (dynamic-limits r Greatest, dynamic-limits r Least)
+factor-requires c κs = let r = begun c .pre .0 in search (dynamic-limits r Greatest, dynamic-limits r Least)
 
 factor-requires-2 : tie.Need-factor-requires-2
-factor-requires-2 c κs = let r = c .before .before .before .before .before .before .pre .0 in search (dynamic-limits r Greatest, dynamic-limits r Least)
+factor-requires-2 c κs = let r = begun (c .before) .pre .0 in search (dynamic-limits r Greatest, dynamic-limits r Least)
 
 section-requires : tie.Need-section-requires
-section-requires c κs = sized (c .before .before .before .before .before .before .before .pre .0)
+section-requires c κs = sized (begun (c .before .before) .pre .0)
 
 section-requires-2 : tie.Need-section-requires-2
-section-requires-2 c κs = sized (c .before .before .before .before .before .before .before .before .pre .0)
+section-requires-2 c κs = sized (begun (c .before .before .before) .pre .0)
 
 across-of-requires : tie.Need-across-of-requires
 across-of-requires c κs =
-    let s = c .before .before .before .before .before .before .before .before .before in
+    let s = begun (c .before .before .before .before) in
     let a = s .args .head in
     (subst (λ (l : List ℕ). TransverseFits l (a .width) (a .spacing)) (sym (c .before .section .ensures)) (across-fits (s .pre .0)), λ h. subst (λ (l : List ℕ). TransverseFits l (a .second) (a .spacing)) (sym (c .section2 .ensures)) (second-fits (s .pre .0) h))
 
@@ -56,7 +60,7 @@ module _ (c : tie.After-across-of) where
   two = formed .before .before
 
   abbrev st : tie.Start
-  st = two .before .before .before
+  st = begun formed
 
   abbrev job : Job
   job = decode (st .args .job .now)

@@ -15,21 +15,6 @@ use Rattle.limits.proofs.item_misfit.Tie as tie
 inside : (st : tie.Start) {part : Part} → st .args .part ≡ part → (st .args .i < format (st .args .head) part .items) × (4 * words (st .args .head) part ≤ length (st .args .s .now))
 inside st e = subst (λ (part : Part). (st .args .i < format (st .args .head) part .items) × (4 * words (st .args .head) part ≤ length (st .args .s .now))) e (st .pre .1, st .pre .2)
 
-piece-misfit-requires : tie.Need-piece-misfit-requires
-piece-misfit-requires c κs =
-    let h = inside (c .before .before .before) (c .enum-told2 .given .1) in
-    omega arith
-
-transverse-misfit-requires : tie.Need-transverse-misfit-requires
-transverse-misfit-requires c κs =
-    let h = inside (c .before .before .before) (c .enum-told3 .given .1) in
-    omega arith
-
-transverse-misfit-requires-2 : tie.Need-transverse-misfit-requires-2
-transverse-misfit-requires-2 c κs =
-    let h = inside (c .before .before .before) (c .enum-told4 .given .1) in
-    omega arith
-
 effect-misfit-requires : tie.Need-effect-misfit-requires
 effect-misfit-requires c κs =
     let st = c .before .before .before in
@@ -38,16 +23,6 @@ effect-misfit-requires c κs =
     let e = effect-size u (profileOf (st .args .head .edition)) in
     let k : 4 * (effectSize u * st .args .head .effects) ≤ length (st .args .s .now) = rw e at (h .1) in
     omega (arith, item-inside (effectSize u) (st .args .i) (st .args .head .effects) (h .0))
-
-row-misfit-requires : tie.Need-row-misfit-requires
-row-misfit-requires c κs =
-    let h = inside (c .before .before .before) (c .enum-told6 .given .1) in
-    omega arith
-
-record-misfit-requires : tie.Need-record-misfit-requires
-record-misfit-requires c κs =
-    let h = inside (c .before .before .before) (c .enum-told7 .given .1) in
-    omega arith
 
 returns : tie.Need-returns
 returns c = absurd (subst AfterHeader (c .enum-told .given .1) (c .before .before .before .pre .0))
@@ -75,4 +50,4 @@ returns-7 c = rw (c .before .enum-told7 .given .1) (c .record-misfit .ensures)
 pub item-misfit-spec : {M : Type 1} → statement M
 item-misfit-spec =
     tie.close
-    (tie.spec (λ c. search needs) (λ c. search needs) piece-misfit-requires (λ c. search needs) transverse-misfit-requires (λ c. search needs) transverse-misfit-requires-2 (λ c. search needs) effect-misfit-requires (λ c. search needs) row-misfit-requires (λ c. search needs) record-misfit-requires returns returns-2 returns-3 returns-4 returns-5 returns-6 returns-7)
+    (tie.spec (λ c. search needs) (λ c. search needs) (λ c κs. let h = inside (c .before .before .before) (c .enum-told2 .given .1) in omega arith) (λ c. search needs) (λ c κs. let h = inside (c .before .before .before) (c .enum-told3 .given .1) in omega arith) (λ c. search needs) (λ c κs. let h = inside (c .before .before .before) (c .enum-told4 .given .1) in omega arith) (λ c. search needs) effect-misfit-requires (λ c. search needs) (λ c κs. let h = inside (c .before .before .before) (c .enum-told6 .given .1) in omega arith) (λ c. search needs) (λ c κs. let h = inside (c .before .before .before) (c .enum-told7 .given .1) in omega arith) returns returns-2 returns-3 returns-4 returns-5 returns-6 returns-7)

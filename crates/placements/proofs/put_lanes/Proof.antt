@@ -30,7 +30,7 @@ put-lane-requires c κs =
     let s = l .before .before in
     let e = kept (l .loop .inv .1 .bytes) in
     let n = three-a-lane (s .args .t3) (l .loop .i) in
-    (omega (arith, l .loop .inv .1 .ends), s .pre .1 (l .loop .i))
+    omega (arith, l .loop .inv .1 .ends)
 
 loop-again : tie.Need-loop-again Inv-loop μ-loop
 loop-again c =

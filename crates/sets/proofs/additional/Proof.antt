@@ -9,4 +9,4 @@ returns : tie.Need-returns
 returns c = (c .twentieths .ensures .0 ∙ ap twentieths (add-one (c .before .args .m)), c .twentieths .ensures .1)
 
 pub additional-spec : {M : Type 1} → statement M
-additional-spec = tie.close (tie.spec (λ c. search needs) (λ c. search needs) (λ c κs. search needs) returns)
+additional-spec = tie.close (tie.spec (λ c. search needs) (λ c κs. search needs) returns)

@@ -33,4 +33,4 @@ returns c ho =
 pub best-normal-spec : {M : Type 1} → statement M
 best-normal-spec =
     tie.close
-    (tie.spec Inv-loop μ-loop (λ c κs. (c .pre .0, values-near (c .pre .2))) (λ c. omega arith) loop-holds (λ c κs. let s = c .before .before .before in (s .pre .0, values-near (s .pre .2))) (λ c κs. tt) (λ c. omega arith) (λ c. omega arith) loop-again returns)
+    (tie.spec Inv-loop μ-loop (λ c κs. (c .pre .0, values-near (c .pre .2))) (λ c. omega arith) loop-holds (λ c. omega arith) (λ c κs. let s = c .before .before .before in (s .pre .0, values-near (s .pre .2))) (λ c κs. tt) (λ c. omega arith) (λ c. omega arith) loop-again returns)

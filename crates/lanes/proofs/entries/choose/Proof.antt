@@ -79,17 +79,17 @@ made sense v at = record { value = v; sense = sense; centre = at }
 
 returns : tie.Need-returns
 returns c =
-    let w = centres (c .before .before .before) in
+    let w = centres (c .before .before) in
     ap₂ (made Lowering) (down w .1 .is) (ap (λ (x : Centre). x .at) (w .worst-of .ensures))
-    ∙ sym (ap (elementOf (q w) (span w) (e w)) (beats-held (down w .1) (up w .1) (q w) (c .before .before .beats .ensures) (c .before .if1 .taken)))
+    ∙ sym (ap (elementOf (q w) (span w) (e w)) (beats-held (down w .1) (up w .1) (q w) (c .before .beats .ensures) (c .if1 .taken)))
 
 returns-2 : tie.Need-returns-2
 returns-2 c =
-    let w = centres (c .before .before .before) in
+    let w = centres (c .before .before) in
     ap₂ (made Raising) (up w .1 .is) (ap (λ (x : Centre). x .at) (w .before .best-of .ensures))
-    ∙ sym (ap (elementOf (q w) (span w) (e w)) (beats-held (down w .1) (up w .1) (q w) (c .before .before .beats .ensures) (c .before .if1 .left)))
+    ∙ sym (ap (elementOf (q w) (span w) (e w)) (beats-held (down w .1) (up w .1) (q w) (c .before .beats .ensures) (c .if1 .left)))
 
 pub choose-spec : {M : Type 1} → statement M
 choose-spec =
     tie.close
-    (tie.spec (λ c κs. search needs) (λ c κs. search needs) cast-up mul-up cast-down mul-down (λ c κs. search needs) (λ c. search needs) returns (λ c. search needs) returns-2)
+    (tie.spec (λ c κs. search needs) (λ c κs. search needs) cast-up mul-up cast-down mul-down (λ c κs. search needs) returns returns-2)
