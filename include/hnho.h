@@ -117,7 +117,7 @@ enum hnho_refusal_number {
 enum hnho_edition {
   HNHO_EDITION_HIGHWAY = 1,
   HNHO_EDITION_NEWTONS = 2,  /* a highway bridge's, with effects in N.U (past 1000000000 kN.U, or not whole kN.U) or spans by sign */
-  HNHO_EDITION_TWO_CARRIAGEWAYS = 3,  /* the same, with a second carriageway beyond a median */
+  HNHO_EDITION_TWO_CARRIAGEWAYS = 3,  /* edition 2's, with a second carriageway beyond a median */
   HNHO_EDITION_RURAL = 4
 };
 
@@ -462,8 +462,7 @@ static inline void hnho_read_account(const uint8_t *bytes, struct hnho_account *
   account->records_walked = hnho_number(bytes, HNHO_RECORDS_WALKED);
 }
 
-/* n of lane[i] of a placement, in n-ths of a cm of which its centre is: the lanes of the carriageway that it is on; 0 for a lane past
- * the job's own. */
+/* The n of lane[i] of a placement, whose centre is in n-ths of a cm: the lanes of its own carriageway; 0 past the lanes of the job. */
 static inline int64_t hnho_lane_n(const struct hnho_account *account, size_t i) {
   const int64_t lane = (int64_t)i;
   if (lane < account->first_lanes)

@@ -423,13 +423,19 @@ static size_t pack_farm(uint8_t *job, int32_t width, int32_t barriers) {
   return words;
 }
 
-/* The farm job at W 300 without barriers, with one word changed. */
-static void call_farm_changed(const char *name, size_t word, int32_t value, int number, uint64_t place) {
+/* The farm job at W 300 without barriers, with two words changed. */
+static void call_farm_changed_twice(const char *name, size_t word, int32_t value, size_t other, int32_t other_value, int number,
+                                    uint64_t place) {
   uint8_t job[4 * FARM_MOST_WORDS];
   size_t words = pack_farm(job, 300, HNHO_BARRIERS_NONE);
   step = name;
   hnho_put_word(job, word, value);
+  hnho_put_word(job, other, other_value);
   call(job, 4 * words, 1, HNHO_ACCOUNT_BYTES, 0, number, place);
+}
+
+static void call_farm_changed(const char *name, size_t word, int32_t value, int number, uint64_t place) {
+  call_farm_changed_twice(name, word, value, word, value, number, place);
 }
 
 /* Each width of note with each barriers: at and next to the ends of the bands, and of word 4's own limits. */
@@ -512,6 +518,7 @@ static void farm_refusals(void) {
     call_farm_changed("a mark of 3", value + 1, 3, HNHO_TABLE_LIMIT, value + 1);
     call_farm_changed("an effect of 1000000001", value, 1000000001, HNHO_TABLE_LIMIT, value);
     call_farm_changed("an effect of -1000000001", value, -1000000001, HNHO_TABLE_LIMIT, value);
+    call_farm_changed_twice("an effect and its mark", value, 1000000001, value + 1, 3, HNHO_TABLE_LIMIT, value);
   }
 }
 

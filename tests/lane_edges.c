@@ -169,44 +169,32 @@ static int64_t most_normal(int question) {
   return most;
 }
 
-/* The most of the lanes that are not HO, in twentieths: each of them in turn stays unloaded or takes a factor that is left, of equal
- * factors the first, and in the end all those of some number of additional lanes are given away. */
-static int64_t most_beside(int ho, int question) {
-  const int factors = lanes - 1;
-  int64_t sums[1 << (HNHO_LANES - 1)]; /* the most by the set of factors given away; below 0 where there is none */
-  int64_t most = 0, element, sum;
-  int i, j, used, count;
-  for (used = 0; used < 1 << factors; used++)
-    sums[used] = used == 0 ? 0 : -1;
+/* The most in overload, in twentieths: each lane in turn stays unloaded or takes HO or a factor, whichever is left, of equal factors
+ * the first, and in the end HO is given away and all the factors of some number of additional lanes. */
+static int64_t most_overload(int question) {
+  int64_t sums[1 << HNHO_LANES]; /* the most by what is given away, HO the lowest bit; below 0 where it cannot be */
+  int64_t most = 0, sum;
+  int i, j, given, count;
+  for (given = 0; given < 1 << lanes; given++)
+    sums[given] = given == 0 ? 0 : -1;
   for (i = 0; i < lanes; i++) {
-    if (i == ho)
-      continue;
-    element = worth(i, HN, question);
-    for (used = (1 << factors) - 1; used >= 0; used--) {
-      if (sums[used] < 0)
+    const int64_t hn = worth(i, HN, question), ho = worth(i, HO, question);
+    for (given = (1 << lanes) - 1; given >= 0; given--) {
+      if (sums[given] < 0)
         continue;
-      for (j = 0; j < factors; j++) {
-        if ((used >> j & 1) || (j > 0 && additional[j] == additional[j - 1] && (used >> (j - 1) & 1) == 0))
+      for (j = 0; j < lanes; j++) {
+        const int second_of_equals = j > 1 && additional[j - 1] == additional[j - 2];
+        if ((given >> j & 1) || (second_of_equals && (given >> (j - 1) & 1) == 0))
           continue;
-        sum = sums[used] + additional[j] * element;
-        if (sum > sums[used | 1 << j])
-          sums[used | 1 << j] = sum;
+        sum = sums[given] + (j == 0 ? 20 * ho : additional[j - 1] * hn);
+        if (sum > sums[given | 1 << j])
+          sums[given | 1 << j] = sum;
       }
     }
   }
-  for (count = 0; count <= factors; count++)
+  for (count = 1; count <= lanes; count++)
     if (sums[(1 << count) - 1] > most)
       most = sums[(1 << count) - 1];
-  return most;
-}
-
-static int64_t most_overload(int question) {
-  int64_t most = 0, one;
-  int ho;
-  for (ho = 0; ho < lanes; ho++) {
-    one = 20 * worth(ho, HO, question) + most_beside(ho, question);
-    most = one > most ? one : most;
-  }
   return most;
 }
 
@@ -221,7 +209,7 @@ static int is_ho(const struct hnho_lane *entry) {
 }
 
 /* What a lane of a placement gives, times the question. */
-static int64_t given(const struct hnho_lane *entry, int i, int question) {
+static int64_t effect_of(const struct hnho_lane *entry, int i, int question) {
   const int sense = entry->entry == HNHO_HN_RAISING || entry->entry == HNHO_HO_RAISING ? 1 : -1;
   return sense == sign ? question * sign * ordinate(lane[i].on, entry->centre) * (is_ho(entry) ? HO : HN) : 0;
 }
@@ -245,12 +233,12 @@ static void expect_placement(const struct hnho_placement *p, int64_t value, int 
     if (is_ho(entry) || !overload) {
       heavy += is_ho(entry);
       expect(entry->factor == 0, what);
-      sum += (overload ? 20 : 1) * given(entry, i, question);
+      sum += (overload ? 20 : 1) * effect_of(entry, i, question);
     } else {
       expect(entry->factor > 0 && entry->factor <= 20, what);
       factors[entry->factor]++;
       due[additional[light]]++;
-      sum += entry->factor * given(entry, i, question);
+      sum += entry->factor * effect_of(entry, i, question);
     }
     light += !is_ho(entry);
   }

@@ -149,7 +149,7 @@ fn main() {
         ("N 500, full tables", full(500), 1_000),
         ("largest (N 1000, full tables)", full(1000), 1_000),
         (
-            "and two carriageways (ten lanes)",
+            "largest with ten lanes (N 1000)",
             full_on_two_carriageways(),
             1_000,
         ),
