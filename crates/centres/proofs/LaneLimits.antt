@@ -166,7 +166,7 @@ module _ {near far : List ℕ} {d : Decks} (fit : DecksFit near far d) where
   -- each lane's span, the lanes and the sums' denominator are those of every job with these carriageways
   module _ (spans : List Span) (each : (job : Job) → DecksOf near far (d .width) (d .second) (d .g) job → (i : ℕ) → i < lanes job → SpanRight (deckOf job i) (numberOn job i) (getD spans i noSpan)) where
     abbrev across : Across
-    across = record { spans = spans; first = d .lanes; second = d .beyond; lanes = d .lanes + d .beyond; unit = d .lanes * max 1 (d .beyond) * d .g }
+    across = record { spans = spans; first = d .lanes; second = d .beyond; lanes = d .lanes + d .beyond; denominator = d .lanes * max 1 (d .beyond) * d .g }
 
     pub across-fits : AcrossFits across
     across-fits =
@@ -191,7 +191,7 @@ module _ {near far : List ℕ} {d : Decks} (fit : DecksFit near far d) where
       first = first-lanes of;
       second = second-lanes of;
       lanes = all-lanes of;
-      unit = ap₂ _*_ (ap₂ (λ (n m : ℕ). n * max 1 m) (first-lanes of) (second-lanes of)) (ap (λ (c : Carriageway). c .g) (sym (of .deck)));
-      apart = let some : 0 < d .g = omega (arith, fit .first .apart) in (subst (λ (c : Carriageway). 0 < c .g) (sym (of .deck)) some, subst (λ (c : Carriageway). 0 < c .g) (sym (of .second)) some);
+      denominator = ap₂ _*_ (ap₂ (λ (n m : ℕ). n * max 1 m) (first-lanes of) (second-lanes of)) (ap (λ (c : Carriageway). c .g) (sym (of .deck)));
+      spaced = let some : 0 < d .g = omega (arith, fit .first .apart) in (subst (λ (c : Carriageway). 0 < c .g) (sym (of .deck)) some, subst (λ (c : Carriageway). 0 < c .g) (sym (of .second)) some);
       each = λ i h. each job of i (omega (arith, all-lanes of));
     }

@@ -54,8 +54,8 @@ pub record AcrossFits (a : Across) : Type 0 where
   pub few : a .first ≤ 5
   pub secondFew : a .second ≤ 5
   pub both : a .lanes ≡ a .first + a .second
-  pub apart : 10 ≤ a .unit
-  pub close : a .unit ≤ 1250
+  pub apart : 10 ≤ a .denominator
+  pub close : a .denominator ≤ 1250
   pub spans : (i : ℕ) → i < a .lanes → SpanFits (getD (a .spans) i noSpan)
 
 -- a width within its limits, or 0 for no carriageway
@@ -79,6 +79,6 @@ pub record Spanned (job : Job) (a : Across) : Type 0 where
   pub first : a .first ≡ lanesOf (job .deck)
   pub second : a .second ≡ secondLanes job
   pub lanes : a .lanes ≡ lanes job
-  pub unit : a .unit ≡ sumUnit job (unit job)
-  pub apart : (0 < job .deck .g) × (0 < job .second .g)
+  pub denominator : a .denominator ≡ sumUnit job (unit job)
+  pub spaced : (0 < job .deck .g) × (0 < job .second .g)
   pub each : (i : ℕ) → i < a .lanes → SpanRight (deckOf job i) (numberOn job i) (getD (a .spans) i noSpan)

@@ -173,13 +173,13 @@ fn at_least_one(n: usize) -> usize
     n
 }
 
-// What lies across the line: each lane's span, the lanes of each carriageway and of both, and the sums' denominator, which ordinates in units are times.
+// What lies across the line: each lane's span, the lanes of each carriageway and of both, and the sums' denominator, n of both carriageways times g.
 pub struct Across {
     pub spans: [Span; 10],
     pub first: usize,
     pub second: usize,
     pub lanes: usize,
-    pub unit: usize,
+    pub denominator: usize,
 }
 
 // What lies across, by the transverse sections of both carriageways, their widths (0 for a second one that is not there) and the spacing g.
@@ -202,6 +202,6 @@ pub fn across_of(near: &[u8], far: &[u8], width: usize, second: usize, g: usize)
         first: n,
         second: m,
         lanes: n + m,
-        unit: n * at_least_one(m) * g,
+        denominator: n * at_least_one(m) * g,
     }
 }

@@ -54,7 +54,7 @@ module _ (q : Question) (across : Across) (e : Effects) {b : ℕ} (fit : LoadsFi
   elements job kind on is i h =
       let same = ap₂ times (other-is on i) is in
       subst (λ (e : Effects). ElementRight q job kind i (chosen q (getD (across .spans) i noSpan) e)) (sym same)
-      (chosen-element q job kind i (getD (across .spans) i noSpan) (deck-spaced job i (on .apart)) (on .each i h) (subst (LineEffectsFit (among (across .lanes) b)) same (fit .each i h)))
+      (chosen-element q job kind i (getD (across .spans) i noSpan) (deck-spaced job i (on .spaced)) (on .each i h) (subst (LineEffectsFit (among (across .lanes) b)) same (fit .each i h)))
 
   -- their effects as an array has them
   module _ (v : List ℤ) (are : (i : ℕ) → i < across .lanes → valueAt v i ≡ chosenIn q across e i .value) where

@@ -126,7 +126,7 @@ module _ (best : Loading) (n : ℕ) (hn over : ℕ → Chosen) (all : List Lane)
 
 -- ---- in a job
 module _ (q : Question) (job : Job) (live : Live) (across : Across) (dynamic : ℕ) (best : Loading) (hn ho : ℕ → Chosen) (f : LoadingOf q job live across dynamic best hn ho) (few : across .lanes ≤ 10)
-    (x : Extreme) (value : x .value ≡ effectOf q dynamic (best .value) (across .unit)) (set : x .placement .set ≡ (if ltb (best .lane) 10 then best .set + 2 ^ best .lane else best .set))
+    (x : Extreme) (value : x .value ≡ effectOf q dynamic (best .value) (across .denominator)) (set : x .placement .set ≡ (if ltb (best .lane) 10 then best .set + 2 ^ best .lane else best .set))
     (as-found : LanesPlaced best (across .lanes) hn ho (x .placement .lanes)) where
   abbrev at : ℕ
   at = best .lane
@@ -169,8 +169,8 @@ module _ (q : Question) (job : Job) (live : Live) (across : Across) (dynamic : �
       record {
         value =
             value
-            ∙ ap (λ (d : ℕ). effectOf q d (best .value) (across .unit)) (f .dynamicIs)
-            ∙ ap₂ (λ (z : ℤ) (d : ℕ). effectOf q (job .dynamic q) z d) best-is (f .spanned .unit);
+            ∙ ap (λ (d : ℕ). effectOf q d (best .value) (across .denominator)) (f .dynamicIs)
+            ∙ ap₂ (λ (z : ℤ) (d : ℕ). effectOf q (job .dynamic q) z d) best-is (f .spanned .denominator);
         entries = λ i h.
             subst (λ (y : Lane). EntryRight q job i (y .entry) (y .centre)) (sym (placed .each i h))
             (entry-by i (hn i) (ho i) (eqb i at) (bit (best .set) i) (f .underHn i h) (λ e. f .underHo i h (eqb-true i at e)));

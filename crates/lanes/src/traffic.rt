@@ -101,7 +101,7 @@ fn found(
 {
     let lanes = placed(q, across, best, hn, ho);
     let set = sets::loaded(best.set, best.lane);
-    let value = value(q, dynamic, best.value, across.unit);
+    let value = value(q, dynamic, best.value, across.denominator);
     let placement = Placement { set, lanes };
     Extreme { value, placement }
 }

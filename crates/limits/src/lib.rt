@@ -172,7 +172,7 @@ fn width_fits(s: &[u8], p: usize) -> bool
     in_range(s, p, 300, 2079)
 }
 
-// Edition 3's words from 7 on: those, and the second carriageway's width.
+// Edition 3's words from 7 on: edition 2's, and the second carriageway's width.
 fn third_counts(s: &[u8]) -> Fault
     requires { ⌜ 52 ≤ length (now s) ⌝ }
     ensures { λ r. ⌜ placeOf r ≡ misfitFrom 7 (tableCounts Third) (itemFrom (now (s .entry)) 0 0) ⌝ }

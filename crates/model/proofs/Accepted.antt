@@ -1,5 +1,5 @@
 -- What an accepted job is, decoded.
-use mathlib.Core.Path.{_≡_, _∙_, ap}
+use mathlib.Core.Path.{_≡_, refl, _∙_, ap}
 use mathlib.Core.Option.{none}
 use mathlib.Core.List.{List}
 use Prim.Native.Nat.{ℕ, _<_}
@@ -16,6 +16,11 @@ use Rattle.model.proofs.Verdict.{clear}
 use Rattle.model.proofs.HeaderLimits.{header-fits, rural-width, rural-second, whole-spacing}
 use Rattle.model.proofs.Lanes.{Spaced, one-carriageway}
 use Rattle.model.proofs.LineLimits.{OneSigned, one-signed}
+
+-- both carriageways have the same g
+pub one-spacing : (b : List ℕ) → decode b .second .g ≡ decode b .deck .g
+unfolding decode
+one-spacing b = refl
 
 module _ (b : List ℕ) (accepted : jobVerdict b ≡ none) where
   -- its pieces have one sign each

@@ -7,6 +7,7 @@ pub mod Sections
 pub mod Counts
 pub mod Editions
 pub mod EditionOne
+pub mod EditionThree
 pub mod Verdict
 pub mod Dynamic
 pub mod HeaderLimits

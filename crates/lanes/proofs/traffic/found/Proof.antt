@@ -20,8 +20,8 @@ returns : tie.Need-returns
 returns c =
     let s = c .before .before .before .before in
     let a = s .args in
-    let v : toZ w64 (ofZ w64 (c .value .result)) ≡ effectOf (a .q) (a .dynamic) (a .best .value) (a .across .unit) =
-    back w64 (c .value .ok) (c .value .ensures .0 ∙ ap (λ (z : ℤ). effectOf (a .q) (a .dynamic) z (a .across .unit)) (known w64 (s .pre .6) (lit< tt) .is)) in (
+    let v : toZ w64 (ofZ w64 (c .value .result)) ≡ effectOf (a .q) (a .dynamic) (a .best .value) (a .across .denominator) =
+    back w64 (c .value .ok) (c .value .ensures .0 ∙ ap (λ (z : ℤ). effectOf (a .q) (a .dynamic) z (a .across .denominator)) (known w64 (s .pre .6) (lit< tt) .is)) in (
       subst (Within trafficMost) (sym (back w64 (c .value .ok) refl)) (c .value .ensures .1),
       λ job live f. traffic-placed (a .q) job live (a .across) (a .dynamic) (a .best) (chosenIn (a .q) (a .across) (a .hn)) (chosenIn (a .q) (a .across) (a .ho)) f (some-lanes (s .pre .0) .1) _ v (c .before .before .loaded .ensures) (c .before .before .before .placed .ensures),
     )
