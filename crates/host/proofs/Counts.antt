@@ -1,5 +1,5 @@
 -- The counts of an answer's account are small: a row is one of the job's, and a carriageway has at most five lanes.
-use mathlib.Core.Path.{_≡_, sym, subst}
+use mathlib.Core.Path.{sym, subst}
 use mathlib.Core.List.{List}
 use Prim.Native.Nat.{ℕ, _≤_}
 use native.Mathlib.Omega.{arith}

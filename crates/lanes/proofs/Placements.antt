@@ -18,7 +18,7 @@ use Rattle.exact.specs.declared.Question.{Question}
 use Rattle.exact.proofs.Bridge.{by-test}
 use Rattle.model.specs.Job.{Job, Live}
 use Rattle.model.specs.Line.{HN, HO}
-use Rattle.model.specs.Lanes.{bit, lanes, unit}
+use Rattle.model.specs.Lanes.{bit, lanes}
 use Rattle.model.specs.Traffic.{isAdditional, bestSum, effectOf, trafficValue}
 use Rattle.model.specs.Arrangements.{KindsFit}
 use Rattle.model.specs.Answered.{emptyLane, entryBit, setOf, laneAt}

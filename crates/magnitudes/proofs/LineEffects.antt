@@ -1,22 +1,20 @@
 -- How far from zero a line's effects are, by its ordinates.
-use mathlib.Core.Path.{_≡_, sym, ap, subst}
+use mathlib.Core.Path.{_≡_, ap, subst}
 use Prim.Native.Nat.{ℕ, zero, suc, _+_, _*_, _/_, _%_, _≤_, _<_}
-use native.Mathlib.Nat.{le-refl, div-one, mod-one, mul-le-mul-right}
+use native.Mathlib.Nat.{le-refl, mod-one, mul-le-mul-right}
 use native.Mathlib.Omega.{arith}
 use lib.Dec.{ltb, eqb}
-use lib.IntN.{ℤ, pos, negsuc, natAbs, _+ℤ_, _*ℤ_}
+use lib.IntN.{ℤ, pos, negsuc, natAbs}
 use borrow.Author.Tests.{ltb-true}
 use Rattle.exact.specs.Bounds.{Within}
 use Rattle.exact.specs.Choice.{if_then_else_}
 use Rattle.exact.specs.Parts.{up}
-use Rattle.exact.specs.Questions.{extreme}
 use Rattle.exact.specs.Ranges.{sumTo}
-use Rattle.exact.specs.declared.Question.{Question}
 use Rattle.exact.proofs.Bounds.{within-le, within-pos, within-add, within-mul}
 use Rattle.exact.proofs.Bridge.{by-test}
 use Rattle.exact.proofs.Extremes.{better-ind, extreme-met}
 use Rattle.exact.proofs.Ring.{_⊕_, _⊝_, _⊗_, lit, _≐_, solve}
-use Rattle.model.specs.Job.{Piece, InfluenceLine}
+use Rattle.model.specs.Job.{InfluenceLine}
 use Rattle.model.specs.Line.{Kind, HN, HO, axle, axleSpacing, along, ordinate, pair, endSum, patchByte, loadedByte, sought, pieceLoad, uniformPart, station, bestPair, lineEffect}
 use Rattle.model.specs.declared.Sense.{Sense}
 use Rattle.model.specs.declared.Side.{Side}

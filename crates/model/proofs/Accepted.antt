@@ -10,7 +10,7 @@ use Rattle.exact.specs.Choice.{if_then_else_}
 use Rattle.model.specs.Format.{profileOf, headerOf}
 use Rattle.model.specs.Job.{rural}
 use Rattle.model.specs.Decode.{decode}
-use Rattle.model.specs.Lanes.{laneCount, lanesOf, lanes}
+use Rattle.model.specs.Lanes.{laneCount, lanes}
 use Rattle.model.specs.Refusals.{jobVerdict}
 use Rattle.model.proofs.Verdict.{clear}
 use Rattle.model.proofs.HeaderLimits.{header-fits, rural-width, rural-second, whole-spacing}

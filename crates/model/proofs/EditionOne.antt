@@ -1,6 +1,6 @@
 -- Where word 0 names no later edition, a job is judged and decoded as document 01 has it: here is all that asks the edition, at edition 1.
 use mathlib.Core.Path.{_≡_, refl}
-use mathlib.Core.Bool.{Bool, false, _&&_}
+use mathlib.Core.Bool.{false, _&&_}
 use mathlib.Core.Option.{none}
 use mathlib.Core.List.{List, [], _∷_}
 use Prim.Native.Nat.{ℕ, _+_, _-_, _*_, _%_}
@@ -8,7 +8,6 @@ use native.Mathlib.Nat.{add-zero, mul-one}
 use lib.IntN.{pos, _*ℤ_}
 use lib.Dec.{leb, eqb}
 use lib.ListN.{length}
-use Rattle.exact.specs.Choice.{if_then_else_}
 use Rattle.words.specs.Words.{wordAt, countAt}
 use Rattle.words.specs.Fields.{free, range, within, given, _of_, misfit}
 use Rattle.model.specs.Format.{is, headerOf, pieceLength, pieceCount, dynamicFits, format, words, sectionOf}

@@ -1,5 +1,4 @@
-use mathlib.Core.Path.{_≡_}
-use Prim.Native.Nat.{ℕ, _+_, _-_, _≤_}
+use Prim.Native.Nat.{_+_, _-_, _≤_}
 use native.Mathlib.Omega.{arith}
 use Rattle.exact.proofs.Filled.{FilledTo, filled-none, filled-more}
 use Rattle.model.specs.Job.{Job}

@@ -1,7 +1,6 @@
 use mathlib.Core.Path.{_≡_, subst}
 use Prim.Native.Nat.{_+_, _*_, _≤_}
 use lib.ListN.{length}
-use borrow.Author.Needs.{needs}
 use Rattle.model.specs.Format.{EffectUnit, effectUnit, effectSize}
 use Rattle.model.proofs.Editions.{kilonewton-editions, newton-editions}
 use Rattle.limits.proofs.effect_misfit.Statement.{statement}

@@ -1,6 +1,5 @@
 use mathlib.Core.Path.{refl}
 use native.Mathlib.Omega.{arith}
-use borrow.Author.Needs.{needs}
 use Rattle.model.proofs.Editions.{kilonewton-editions, newton-editions}
 use Rattle.sections.proofs.effect_words.Statement.{statement}
 use Rattle.sections.proofs.effect_words.Tie as tie

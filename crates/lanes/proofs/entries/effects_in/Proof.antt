@@ -1,14 +1,13 @@
 use mathlib.Core.Path.{ap, ap₂}
-use Prim.Native.Nat.{ℕ, _*_}
+use Prim.Native.Nat.{ℕ}
 use native.Mathlib.Omega.{arith}
 use lib.Dec.{lit<}
-use lib.IntN.{ℤ, pos, _*ℤ_}
+use lib.IntN.{ℤ, pos}
 use mir.Syntax.{w64}
 use borrow.Author.Needs.{needs}
 use Rattle.exact.proofs.Held.{Kept, known, nat, retold, times, times! }
 use Rattle.magnitudes.specs.Magnitudes.{hoLineMost}
 use Rattle.lanes.specs.Entries.{otherIn}
-use Rattle.lanes.specs.declared.traffic.Effects.{Effects}
 use Rattle.lanes.proofs.entries.effects_in.Statement.{statement}
 use Rattle.lanes.proofs.entries.effects_in.Tie as tie
 
