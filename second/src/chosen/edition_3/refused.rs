@@ -38,8 +38,8 @@ const NO_WIDTHS: [i32; 9] = [
     i32::MAX,
 ];
 
-/// A fault of each word before the second width.
-const HEADER_FAULTS: [Change; 11] = [
+/// Faults of the words before the second width.
+const HEADER_FAULTS: [Change; 13] = [
     (PIECE_LENGTH, 3),
     (PIECES, 21),
     (SPACING, 51),
@@ -48,7 +48,9 @@ const HEADER_FAULTS: [Change; 11] = [
     (DYNAMIC_VALUE, 1),
     (EFFECTS, 17),
     (ROWS, 0),
+    (ROWS, 33),
     (RECORDS, 513),
+    (RECORDS, -1),
     (SPAN_FOR_LEAST, 1),
     (WORD_11, 1),
 ];
