@@ -2,7 +2,7 @@
 use mathlib.Core.Path.{_≡_, refl, sym, _∙_, ap, ap₂, subst}
 use mathlib.Core.Bool.{true≢false, _&&_}
 use mathlib.Core.List.{List}
-use Prim.Native.Nat.{ℕ, _-_, _*_, _/_, _^_, _≤_, _<_, max}
+use Prim.Native.Nat.{ℕ, _-_, _*_, _^_, _≤_, _<_, max}
 use native.Mathlib.Omega.{arith}
 use lib.Count.{ones}
 use lib.Dec.{ltb, eqb}
@@ -21,27 +21,21 @@ use Rattle.model.specs.Job.{Profile, highway, rural, Job, Live, noTraffic, norm
 use Rattle.model.specs.Lanes.{bit, reductionFor, lanes, otherLanes}
 use Rattle.model.specs.Line.{Kind, HN, HO}
 use Rattle.model.specs.Traffic.{setSum, bestNormal, assigned, factorChoice, besideSum, bestOverload, bestOn, laneEffect}
-use Rattle.exact.proofs.Bridge.{by-test}
+use Rattle.exact.proofs.Bounds.{within-le}
 use Rattle.model.proofs.Assignments.{overload-cong}
 use Rattle.model.proofs.Lanes.{deck-spaced}
 use Rattle.model.proofs.LiveSums.{sum-on-cong}
-use Rattle.magnitudes.specs.Magnitudes.{transverseMost, hnLineMost, hoLineMost, hnLaneMost, hoLaneMost, among}
+use Rattle.magnitudes.specs.Magnitudes.{transverseMost, among}
 use Rattle.centres.specs.Spans.{AcrossFits, Spanned, noSpan}
 use Rattle.centres.specs.declared.Across.{Across}
 use Rattle.sets.specs.Sets.{valueAt, ValuesFit, LoadingRight}
 use Rattle.sets.specs.declared.Loading.{Loading}
+use Rattle.sets.proofs.Reduced.{among-times}
 use Rattle.lanes.specs.Entries.{LineEffectsFit, LoadsFit, otherIn, times, effectsIn, chosen, chosenIn}
 use Rattle.lanes.specs.Loadings.{effectsOf, ElementRight, LoadingOf}
 use Rattle.lanes.specs.declared.entries.Chosen.{Chosen}
 use Rattle.lanes.specs.declared.traffic.Effects.{Effects}
 use Rattle.lanes.proofs.Elements.{chosen-near, chosen-some, chosen-element}
-
--- an ordinate times a line effect, by the number of lanes
-hn-among : (n : ℕ) → transverseMost * among n hnLineMost ≡ among n hnLaneMost
-hn-among n = by-test (ltb n 6) (λ t. transverseMost * (if t then hnLineMost else hnLineMost / 2) ≡ (if t then hnLaneMost else hnLaneMost / 2)) (λ _. refl) (λ _. refl)
-
-ho-among : (n : ℕ) → transverseMost * among n hoLineMost ≡ among n hoLaneMost
-ho-among n = by-test (ltb n 6) (λ t. transverseMost * (if t then hoLineMost else hoLineMost / 2) ≡ (if t then hoLaneMost else hoLaneMost / 2)) (λ _. refl) (λ _. refl)
 
 -- in a job whose line effects these are, each lane's chosen element gives its best
 module _ (q : Question) (across : Across) (e : Effects) {b : ℕ} (fit : LoadsFit b across e) where
@@ -58,21 +52,16 @@ module _ (q : Question) (across : Across) (e : Effects) {b : ℕ} (fit : LoadsFi
 
   -- their effects as an array has them
   module _ (v : List ℤ) (are : (i : ℕ) → i < across .lanes → valueAt v i ≡ chosenIn q across e i .value) where
-    pub values-fit : AcrossFits across → ValuesFit q (transverseMost * among (across .lanes) b) (across .lanes) (valueAt v)
-    values-fit fits = record {
-      some = λ i h. subst (NoBetter q _) (sym (are i h)) (chosen-some q (getD (across .spans) i noSpan) (effectsIn across e i) (fits .spans i h) (fit .each i h));
-      near = λ i h. subst (Within (transverseMost * among (across .lanes) b)) (sym (are i h)) (chosen-near q (getD (across .spans) i noSpan) (effectsIn across e i) (fits .spans i h) (fit .each i h));
-    }
+    pub values-fit : AcrossFits across → ValuesFit q (among (across .lanes) (transverseMost * b)) (across .lanes) (valueAt v)
+    values-fit fits =
+        let most = among (across .lanes) (transverseMost * b) in
+        record {
+          some = λ i h. subst (NoBetter q _) (sym (are i h)) (chosen-some q (getD (across .spans) i noSpan) (effectsIn across e i) (fits .spans i h) (fit .each i h));
+          near = λ i h. subst (Within most) (sym (are i h)) (within-le (chosen-near q (getD (across .spans) i noSpan) (effectsIn across e i) (fits .spans i h) (fit .each i h)) (among-times (across .lanes) transverseMost b));
+        }
 
     pub effects : (job : Job) (kind : Kind) → Spanned job across → e ≡ effectsOf job kind → (i : ℕ) → i < across .lanes → valueAt v i ≡ laneEffect q job kind i
     effects job kind on is i h = are i h ∙ elements job kind on is i h .value
-
--- the values of a kind by the number of lanes
-pub hn-values : (q : Question) (across : Across) (e : Effects) → LoadsFit hnLineMost across e → (v : List ℤ) → ((i : ℕ) → i < across .lanes → valueAt v i ≡ chosenIn q across e i .value) → AcrossFits across → ValuesFit q (among (across .lanes) hnLaneMost) (across .lanes) (valueAt v)
-hn-values q across e fit v are fits = subst (λ (b : ℕ). ValuesFit q b (across .lanes) (valueAt v)) (hn-among (across .lanes)) (values-fit q across e fit v are fits)
-
-pub ho-values : (q : Question) (across : Across) (e : Effects) → LoadsFit hoLineMost across e → (v : List ℤ) → ((i : ℕ) → i < across .lanes → valueAt v i ≡ chosenIn q across e i .value) → AcrossFits across → ValuesFit q (among (across .lanes) hoLaneMost) (across .lanes) (valueAt v)
-ho-values q across e fit v are fits = subst (λ (b : ℕ). ValuesFit q b (across .lanes) (valueAt v)) (ho-among (across .lanes)) (values-fit q across e fit v are fits)
 
 -- one to ten lanes
 pub some-lanes : {across : Across} → AcrossFits across → (0 < across .lanes) × (across .lanes ≤ 10)

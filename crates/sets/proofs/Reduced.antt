@@ -1,6 +1,6 @@
 -- How far from zero the sums of n lanes are, at their r or at their factors: past five lanes each lane's most is half.
 use Prim.Native.Nat.{ℕ, _*_, _/_, _≤_, _<_}
-use native.Mathlib.Nat.{le-refl, mul-left-comm, mul-le-mul-left}
+use native.Mathlib.Nat.{le-refl, mul-assoc, mul-left-comm, mul-le-mul-left, le-div-iff-mul-le}
 use native.Mathlib.Omega.{arith}
 use lib.IntN.{ℤ, _*ℤ_}
 use lib.Dec.{ltb}
@@ -22,6 +22,13 @@ among-most n most = by-test (ltb n 6) (λ t. (if t then most else most / 2) ≤ 
 
 pub among-wider : (n : ℕ) {most more : ℕ} → most ≤ more → among n most ≤ among n more
 among-wider n {most} {more} h = by-test (ltb n 6) (λ t. (if t then most else most / 2) ≤ (if t then more else more / 2)) (λ _. h) (λ _. omega arith)
+
+-- of a product in each lane
+pub among-times : (n t most : ℕ) → t * among n most ≤ among n (t * most)
+among-times n t most =
+    let double : most / 2 * 2 ≤ most = omega arith in
+    by-test (ltb n 6) (λ b. t * (if b then most else most / 2) ≤ (if b then t * most else t * most / 2)) (λ _. omega arith)
+    (λ _. le-div-iff-mul-le {k = 2} {x = t * (most / 2)} {y = t * most} (omega arith) .1 (omega (arith, mul-assoc t (most / 2) 2, mul-le-mul-left t double)))
 
 pub values-near : {q : Question} {most n : ℕ} {v : ℕ → ℤ} → ValuesFit q (among n most) n v → (i : ℕ) → i < n → Within most (v i)
 values-near {most = most} {n = n} fit i h = within-le (fit .near i h) (among-most n most)

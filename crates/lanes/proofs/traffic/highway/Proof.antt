@@ -10,7 +10,7 @@ use Rattle.sets.specs.Sets.{valueAt, ValuesFit}
 use Rattle.sets.proofs.Reduced.{values-near}
 use Rattle.lanes.specs.Entries.{LoadsFit, chosenIn}
 use Rattle.lanes.proofs.Elements.{wider-loads}
-use Rattle.lanes.proofs.Given.{elements, effects, hn-values, ho-values, some-lanes, loading-of, hn-loading}
+use Rattle.lanes.proofs.Given.{values-fit, elements, effects, some-lanes, loading-of, hn-loading}
 use Rattle.lanes.proofs.traffic.highway.Statement.{statement}
 use Rattle.lanes.proofs.traffic.highway.Tie as tie
 
@@ -23,10 +23,10 @@ module _ (c : tie.After-values2) where
   s = c .before .before
 
   light : ValuesFit (s .args .q) (among (s .args .across .lanes) hnLaneMost) (s .args .across .lanes) (valueAt (c .before .values .result))
-  light = hn-values (s .args .q) (s .args .across) (s .args .hn) (s .pre .3) (c .before .values .result) (c .before .values .ensures) (s .pre .0)
+  light = values-fit (s .args .q) (s .args .across) (s .args .hn) (s .pre .3) (c .before .values .result) (c .before .values .ensures) (s .pre .0)
 
   heavy : ValuesFit (s .args .q) (among (s .args .across .lanes) hoLaneMost) (s .args .across .lanes) (valueAt (c .values2 .result))
-  heavy = ho-values (s .args .q) (s .args .across) (s .args .ho) (s .pre .4) (c .values2 .result) (c .values2 .ensures) (s .pre .0)
+  heavy = values-fit (s .args .q) (s .args .across) (s .args .ho) (s .pre .4) (c .values2 .result) (c .values2 .ensures) (s .pre .0)
 
 found-requires : tie.Need-found-requires
 found-requires c κs =

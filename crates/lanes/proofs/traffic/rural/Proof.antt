@@ -16,7 +16,7 @@ use Rattle.sets.specs.Sets.{valueAt, ValuesFit, LoadingRight}
 use Rattle.sets.proofs.Reduced.{values-near}
 use Rattle.lanes.specs.Entries.{LoadsFit, chosenIn}
 use Rattle.lanes.proofs.Elements.{wider-loads}
-use Rattle.lanes.proofs.Given.{elements, effects, hn-values, some-lanes, hn-loading}
+use Rattle.lanes.proofs.Given.{values-fit, elements, effects, some-lanes, hn-loading}
 use Rattle.lanes.proofs.traffic.rural.Statement.{statement}
 use Rattle.lanes.proofs.traffic.rural.Tie as tie
 
@@ -26,7 +26,7 @@ hn-wide s = wider-loads (lit≤ tt) (s .pre .4)
 -- the lane's effect
 module _ (c : tie.After-values) where
   light : ValuesFit (c .before .args .q) (among (c .before .args .across .lanes) hnLaneMost) (c .before .args .across .lanes) (valueAt (c .values .result))
-  light = let s = c .before in hn-values (s .args .q) (s .args .across) (s .args .hn) (s .pre .4) (c .values .result) (c .values .ensures) (s .pre .0)
+  light = let s = c .before in values-fit (s .args .q) (s .args .across) (s .args .hn) (s .pre .4) (c .values .result) (c .values .ensures) (s .pre .0)
 
   abbrev lane : Kept w64 hnLaneMost (valueAt (c .values .result) 0)
   lane = (_, known w64 (values-near light 0 (some-lanes (c .before .pre .0) .0)) (lit< tt))
