@@ -33,18 +33,18 @@ pub record TrafficFound (job : Job) (live : Live) (t : Traffic) : Type 0 where
   pub placed : (q : Question) → TrafficPlaced q job live (extremeOf q t)
   pub near : (q : Question) → Within trafficMost (extremeOf q t .value)
 
--- both live kinds', and the number of lanes of each carriageway
+-- the values of both live kinds, and the number of lanes of each carriageway
 pub record ValuesRight (job : Job) (v : TrafficValues) : Type 0 where
   pub normal : TrafficFound job normal (v .normal)
   pub overload : TrafficFound job overload (v .overload)
-  pub laneCount : v .lanes ≡ lanesOf (job .deck)
+  pub firstCount : v .first ≡ lanesOf (job .deck)
   pub secondCount : v .second ≡ secondLanes job
 
 -- a question's reported traffic values
 abbrev pub reportedValues : Question → Account → LiveValues
 reportedValues q a = record { normal = extremeOf q (a .normal) .value; overload = extremeOf q (a .overload) .value }
 
--- both questions'
+-- the reported traffic values of both questions
 abbrev pub reportedLive : Account → LiveBoth
 reportedLive a = record { greatest = reportedValues Greatest a; least = reportedValues Least a }
 
@@ -57,5 +57,5 @@ pub record PartsRight (job : Job) (a : Account) : Type 0 where
   pub traffic : (q : Question) (live : Live) → HasTraffic live → TrafficPlaced q job live (extremeOf q (trafficIn a live))
   pub positions : (sense : Sense) → PositionRight (job .line) sense (positionOf a sense)
   pub states : (limit : Limit) → StateOf job a limit (stateIn a limit)
-  pub laneCount : a .lanes ≡ lanesOf (job .deck)
+  pub firstCount : a .first ≡ lanesOf (job .deck)
   pub secondCount : a .second ≡ secondLanes job

@@ -38,11 +38,11 @@ fn sought(job: &[u8], head: Header) -> Senses
 pub struct TrafficValues {
     pub normal: Traffic,
     pub overload: Traffic,
-    pub lanes: usize,
+    pub first: usize,
     pub second: usize,
 }
 
-// By what is sought of the line.
+// The traffic values and the numbers of lanes, by what is sought of the line.
 fn values(job: &[u8], head: Header, raising: Sought, lowering: Sought) -> TrafficValues
     requires { ⌜ Ready (now job) head ⌝ }
     requires { ⌜ SoughtRight (decode (now job) .line) Sense.Raising raising × SoughtRight (decode (now job) .line) Sense.Lowering lowering ⌝ }
@@ -79,7 +79,7 @@ fn values(job: &[u8], head: Header, raising: Sought, lowering: Sought) -> Traffi
     TrafficValues {
         normal,
         overload,
-        lanes: across.first,
+        first: across.first,
         second: across.second,
     }
 }
@@ -134,7 +134,7 @@ pub fn account(job: &[u8], head: Header) -> Account
         lowering: down,
         service,
         ultimate,
-        lanes: v.lanes,
+        first: v.first,
         second: v.second,
     }
 }

@@ -1,4 +1,4 @@
--- What is gathered of a train: its first twelve axles and its length.
+-- What is gathered of a train: its first twelve axles and how many it has.
 use mathlib.Core.List.{List, [], _∷_}
 use Prim.Native.Nat.{ℕ}
 use lib.ListN.{length}

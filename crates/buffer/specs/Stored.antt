@@ -1,8 +1,8 @@
 -- Bytes put into a buffer one after the other.
 use mathlib.Core.Path.{_≡_}
-use mathlib.Core.List.{List, [], _∷_}
+use mathlib.Core.List.{List, [], _∷_, _++_}
 use Prim.Native.Nat.{ℕ, zero, suc, _+_, _*_, _/_, _%_}
-use lib.ListN.{length, getD, drop}
+use lib.ListN.{length, getD, take, drop, replicate}
 use lib.Seq.{sets}
 
 -- the k lowest bytes of a number, lowest first
@@ -19,3 +19,7 @@ fromLittleEndian (suc k) s = getD s 0 0 + 256 * fromLittleEndian k (drop 1 s)
 pub record Stored (before : List ℕ) (at : ℕ) (bytes after : List ℕ) (end : ℕ) : Type 0 where
   pub ends : end ≡ at + length bytes
   pub is : after ≡ sets before at bytes
+
+-- a buffer with zeros for its first `size` bytes, as far as it has them
+abbrev pub cleared : (size : ℕ) → List ℕ → List ℕ
+cleared size before = replicate (length (take size before)) 0 ++ drop size before

@@ -1,7 +1,8 @@
-// Bytes put into a buffer one after the other. Each function puts its bytes into `out` from `at` on and answers where they end.
+// Bytes put into a buffer one after the other. Each `put_` function puts its bytes into `out` from `at` on and answers where they end.
+ghost use mathlib.Core.Path.{_≡_};
 ghost use Prim.Native.Nat.{_+_, _≤_};
 ghost use lib.ListN.{length, replicate};
-ghost use Rattle.buffer.specs.Stored.{littleEndian, Stored};
+ghost use Rattle.buffer.specs.Stored.{littleEndian, Stored, cleared};
 
 // The bytes of another slice.
 pub fn put_bytes(out: &mut [u8], at: usize, bytes: &[u8]) -> usize
@@ -23,6 +24,17 @@ pub fn put_zeros(out: &mut [u8], at: usize, n: usize) -> usize
         out[at + i] = 0;
     }
     at + n
+}
+
+// Zeros for the first `size` bytes, as far as the buffer has them.
+pub fn clear(out: &mut [u8], size: usize)
+    ensures { λ _. ⌜ now (out .exit) ≡ cleared size (now (out .entry)) ⌝ }
+{
+    if out.len() < size {
+        put_zeros(out, 0, out.len());
+        return;
+    }
+    put_zeros(out, 0, size);
 }
 
 // The eight bytes of a number, lowest first.

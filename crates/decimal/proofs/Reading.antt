@@ -27,6 +27,6 @@ digits-read (suc k) n h = by (ltb n 10) (digits-read k (n / 10))
         let t = tenth (omega arith) in
         number-digit (digits k (n / 10)) 0 (n % 10) ∙ omega arith
 
--- A NUMBER IS READ BACK, as every one of 64 bits
+-- a number of 64 bits is read back
 pub decimal-read : (n : ℕ) → n < 2 ^ 64 → numberFrom 0 (decimal n) ≡ n
 decimal-read n h = digits-read 20 n (omega arith)

@@ -33,6 +33,7 @@ fn put_digits(out: &mut [u8], at: usize, n: u64, places: usize) -> usize
     put_digit(out, last, n % 10)
 }
 
+// A number in decimal.
 fn put_decimal(out: &mut [u8], at: usize, n: u64) -> usize
     requires { ⌜ at + 20 ≤ length (now out) ⌝ }
     ensures { λ r. ⌜ Stored (now (out .entry)) at (decimal n) (now (out .exit)) r ⌝ }
@@ -53,6 +54,7 @@ fn magnitude(v: i64) -> u64
     }
 }
 
+// A number in decimal, with its sign.
 fn put_signed(out: &mut [u8], at: usize, v: i64) -> usize
     requires { ⌜ at + 21 ≤ length (now out) ⌝ }
     ensures { λ r. ⌜ Stored (now (out .entry)) at (signed v) (now (out .exit)) r ⌝ }

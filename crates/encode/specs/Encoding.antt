@@ -8,7 +8,7 @@ use lib.IntN.{ℤ, pos}
 use lib.ListN.{replicate}
 use Rattle.numbers.specs.NumberBytes.{numbersBytes}
 use Rattle.placements.specs.PlacementNumbers.{placementsNumbers}
-use Rattle.model.specs.Numbers.{sideNumber}
+use Rattle.model.specs.Numbers.{sideNumber, stateNumber}
 use Rattle.model.specs.declared.Position.{Position}
 use Rattle.model.specs.declared.Traffic.{Traffic}
 use Rattle.model.specs.declared.Governing.{Governing}
@@ -51,12 +51,12 @@ governingNumbers g = g .value ∷ pos (g .row) ∷ pos (g .omitted) ∷ pos (fla
 
 -- whether a limit state is reported, its greatest and its least; zeros for none
 abbrev pub limitNumbers : State → List ℤ
-limitNumbers Absent = replicate 11 (pos 0)
-limitNumbers (Reported greatest least) = pos 1 ∷ governingNumbers greatest ++ governingNumbers least
+limitNumbers Absent = pos (stateNumber Absent) ∷ replicate 10 (pos 0)
+limitNumbers (Reported greatest least) = pos (stateNumber (Reported greatest least)) ∷ governingNumbers greatest ++ governingNumbers least
 
--- the lanes of the carriageway and of a second one; the records walked are reserved
+-- the lanes of the carriageway and of a second one; the third is reserved
 abbrev pub countNumbers : Account → List ℤ
-countNumbers a = pos (a .lanes) ∷ pos (a .second) ∷ pos 0 ∷ []
+countNumbers a = pos (a .first) ∷ pos (a .second) ∷ pos 0 ∷ []
 
 -- the numbers of an account; those of its placements are in placements/specs/PlacementNumbers.antt
 abbrev pub accountNumbers : Account → List ℤ
@@ -67,14 +67,16 @@ accountNumbers a =
 abbrev pub accountBytes : Account → List ℕ
 accountBytes a = numbersBytes (accountNumbers a)
 
+-- ---- what putting an account's bytes asks for
+
 -- a limit state's rows are read back as they are by a reader of signed numbers
 abbrev pub RowsFit : State → Type 0
 RowsFit Absent = Unit {0}
 RowsFit (Reported greatest least) = (greatest .row < 2 ^ 63) × (least .row < 2 ^ 63)
 
--- so are these and the numbers of lanes
+-- both states' rows and the numbers of lanes are read back as they are
 pub record CountsFit (a : Account) : Type 0 where
   pub service : RowsFit (a .service)
   pub ultimate : RowsFit (a .ultimate)
-  pub lanes : a .lanes < 2 ^ 63
+  pub first : a .first < 2 ^ 63
   pub second : a .second < 2 ^ 63

@@ -8,7 +8,7 @@ ghost use mathlib.Core.Path.{_≡_};
 ghost use mathlib.Core.List.{[], _∷_, _++_};
 ghost use Prim.Native.Nat.{_+_, _^_, _≤_, _<_};
 ghost use lib.IntN.{pos};
-ghost use lib.ListN.{length, drop, replicate};
+ghost use lib.ListN.{length, drop};
 ghost use Rattle.model.specs.declared.State.the-variants.{Reported};
 ghost use Rattle.numbers.specs.NumberBytes.{ReadBack, Written};
 ghost use Rattle.encode.specs.Encoding.{accountSize, valueNumbers, positionNumbers, trafficNumbers, flagNumber, governingNumbers, limitNumbers, accountNumbers, accountBytes, RowsFit, CountsFit};
@@ -109,12 +109,12 @@ fn put_states(out: &mut [u8], at: usize, service: State, ultimate: State) -> usi
 }
 
 // The lanes of each carriageway, and what is reserved.
-fn put_counts(out: &mut [u8], at: usize, lanes: usize, second: usize) -> usize
+fn put_counts(out: &mut [u8], at: usize, first: usize, second: usize) -> usize
     requires { ⌜ at + 24 ≤ length (now out) ⌝ }
-    requires { ⌜ (lanes < 2 ^ 63) × (second < 2 ^ 63) ⌝ }
-    ensures { λ r. ⌜ Written (now (out .entry)) at (pos lanes ∷ pos second ∷ pos 0 ∷ []) (now (out .exit)) r ⌝ }
+    requires { ⌜ (first < 2 ^ 63) × (second < 2 ^ 63) ⌝ }
+    ensures { λ r. ⌜ Written (now (out .entry)) at (pos first ∷ pos second ∷ pos 0 ∷ []) (now (out .exit)) r ⌝ }
 {
-    let mut end = numbers::put_count(out, at, lanes as u64);
+    let mut end = numbers::put_count(out, at, first as u64);
     end = numbers::put_count(out, end, second as u64);
     numbers::put_zeros(out, end, 1)
 }
@@ -134,13 +134,5 @@ pub fn write(out: &mut [u8], a: Account)
     end = placements::put_placements(out, end, normal);
     end = placements::put_placements(out, end, overload);
     end = put_states(out, end, service, ultimate);
-    put_counts(out, end, a.lanes, a.second);
-}
-
-// Every byte of a buffer 0.
-pub fn clear(out: &mut [u8])
-    ensures { λ _. ⌜ now (out .exit) ≡ replicate (length (now (out .entry))) 0 ⌝ }
-{
-    let n = out.len();
-    buffer::put_zeros(out, 0, n);
+    put_counts(out, end, a.first, a.second);
 }

@@ -8,7 +8,7 @@ use Rattle.model.specs.RuralBridges.{thousandths, group, groupRows, rowWithK}
 abbrev pub lineRow : ℕ → ℕ
 lineRow line = if ltb line groupRows then suc line else rowWithK
 
--- and the alternative of it
+-- a line's alternative of its row
 abbrev pub lineAlternative : ℕ → ℕ
 lineAlternative line = if ltb line groupRows then 0 else 1
 

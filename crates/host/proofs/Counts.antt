@@ -29,14 +29,14 @@ few-rows rural h = omega arith
 pub counts-fit : {b before after : List ℕ} {x : Answer} → Answered b before x after → CountsFit (x .account)
 unfolding decode
 counts-fit (refused r v u p) =
-    subst (λ (y : Answer). CountsFit (y .account)) (sym u) (record { service = tt; ultimate = tt; lanes = omega arith; second = omega arith })
+    subst (λ (y : Answer). CountsFit (y .account)) (sym u) (record { service = tt; ultimate = tt; first = omega arith; second = omega arith })
 counts-fit {b} {before} {after} {x} (accepted v r) =
     let n = lane-count (decode b .deck .width) in
     let m = second-few (decode b) in
     record {
       service = row service;
       ultimate = row ultimate;
-      lanes = omega (arith, r .account .laneCount);
+      first = omega (arith, r .account .firstCount);
       second = omega (arith, r .account .secondCount);
     }
   where

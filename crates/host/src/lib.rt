@@ -18,7 +18,7 @@ pub extern "C" fn hnho_solve(job: &[u8], patch: &mut [u8], account: &mut [u8]) -
     ensures { λ r. ⌜ Hosted (now (job .entry)) (now (patch .entry)) (now (account .entry)) r (now (patch .exit)) (now (account .exit)) ⌝ }
 {
     if account.len() < encode::SIZE {
-        encode::clear(account);
+        buffer::clear(account, encode::SIZE);
         return 2;
     }
     let answer = kernel::solve(job, patch);

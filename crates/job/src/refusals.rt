@@ -161,7 +161,7 @@ fn ordinates(s: &[u8], head: Header) -> Finding
     )
 }
 
-// 5: a piece of the job's line.
+// 5: a piece of the job's line with one ordinate above 0 and one below.
 fn signs(s: &[u8], head: Header) -> Finding
     requires { ⌜ Sized (now s) head ⌝ }
     ensures { λ r. ⌜ findingOf r ≡ fault5 (now (s .entry)) ⌝ }

@@ -47,7 +47,7 @@ account-right job signed spaced rest a p = record {
   traffic = λ q live h. traffic-right job signed spaced patch rest a refl (p .positions) q live (extremeOf q (trafficIn a live)) (p .traffic q live h);
   positions = p .positions;
   states = λ limit. state-right job patch a limit signed spaced (trafficOf (reportedLive a)) (stateIn a limit) (given limit) (p .states limit);
-  laneCount = p .laneCount;
+  firstCount = p .firstCount;
   secondCount = p .secondCount;
 }
   where

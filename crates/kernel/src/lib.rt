@@ -52,7 +52,7 @@ const ZERO_ACCOUNT: Account = Account {
     lowering: ZERO_POSITION,
     service: State::Absent,
     ultimate: State::Absent,
-    lanes: 0,
+    first: 0,
     second: 0,
 };
 

@@ -26,7 +26,7 @@ pub enum Fault {
     Clear,
 }
 
-// Word p is from lo to hi, counts both.
+// Word p is from lo to hi, both counted in.
 fn in_range(s: &[u8], p: usize, lo: usize, hi: usize) -> bool
     requires { ⌜ 4 * p + 4 ≤ length (now s) ⌝ }
     ensures { λ r. ⌜ r ≡ between (pos lo) (pos hi) (wordAt (now (s .entry)) p) ⌝ }

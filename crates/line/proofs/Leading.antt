@@ -17,6 +17,7 @@ use Rattle.model.specs.Answered.{PositionRight}
 use Rattle.model.specs.declared.Sense.{Sense}
 use Rattle.model.specs.declared.Side.{Side}
 use Rattle.model.specs.declared.Side.the-variants.{Left, Right}
+use Rattle.model.proofs.Pair.{pair-bound}
 use Rattle.pair.specs.PairPlaces.{pairAt, sideAt, placed, standOf, rankOf, rankMost, bestRank}
 use Rattle.pair.specs.declared.Stand.{Stand}
 use Rattle.pair.proofs.Places.{even-side, odd-side, rank-near}
@@ -97,6 +98,7 @@ stands-position line sense {s} p =
     let d = pos (axleSpacing line) in
     record {
       best = p .attained;
+      unbeaten = pair-bound line sense;
       first = ℕ→≤ (omega (arith, subbed k d, up-neg d, dn-neg d));
       last = ℕ→≤ (omega (arith, subbed k d, p .station));
     }

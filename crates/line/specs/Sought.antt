@@ -54,7 +54,7 @@ abbrev pub soughtFor : Sense → Senses → Sought
 soughtFor Raising s = s .raising
 soughtFor Lowering s = s .lowering
 
--- both senses' is right
+-- what both senses seek is right
 abbrev pub SensesRight : InfluenceLine → Senses → Type 0
 SensesRight line s = (sense : Sense) → SoughtRight line sense (soughtFor sense s)
 

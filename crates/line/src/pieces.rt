@@ -82,7 +82,7 @@ pub struct Areas {
     pub lowering: i64,
 }
 
-// Both, of a line of n pieces of h dm.
+// Both areas of a line of n pieces of h dm.
 pub(crate) fn double_areas(line: &[u8], h: usize, n: usize) -> Areas
     requires { ⌜ LineFits (now line) n ⌝ }
     requires { ⌜ (h ≤ 50) × (n * h ≤ 1000) ⌝ }

@@ -27,10 +27,11 @@ areaMost = 10000000
 abbrev pub lineMost : Kind → ℕ
 lineMost kind = 7 * areaMost + up (axle kind) * pairMost
 
--- HN's, 86,000,000, and HO's, 102,000,000
+-- HN's, 86,000,000
 abbrev pub hnLineMost : ℕ
 hnLineMost = lineMost HN
 
+-- HO's, 102,000,000
 abbrev pub hoLineMost : ℕ
 hoLineMost = lineMost HO
 

@@ -231,6 +231,6 @@ module _ (line : InfluenceLine) (n : ℕ) (load : ℕ → ℤ) (d : ℕ → ℕ)
         short : (e : ℕ) → e ≤ m → (negsuc m +ℤ pos e) <ℤ pos 0
         short e h = linear 3 (λ s m d. s ≐ neg (m ⊕ lit 1) ⇒ d ≼ m ⇒ s ⊕ d ≺ lit 0) (negsuc m) (pos m) (pos e) (omega arith) (negsuc-is m) (ℕ→≤ (omega arith))
 
-    -- NO STAND BEATS WHAT NO STATION BEATS, on the line or off, for every whole k
+    -- no stand beats what no station beats, on the line or off, for every whole k
     pub group-bound : (k : ℕ) (z : ℤ) (side : Side) → zero < k → NoBetter q (group k z side) (pos k *ℤ v)
     group-bound k z side h = parts-bound q v stations-bound k z side h

@@ -12,11 +12,11 @@ use Rattle.model.specs.Dynamic.{dynamicFactor}
 use Rattle.model.specs.Decode.{decode}
 use Rattle.model.specs.Refusals.{fault1, fault2, fault3, fault4, fault5, fault6, fault7, fault8, fault9, fault11, jobTests, jobVerdict, verdict}
 use Rattle.model.specs.Line.{along, ordinate, pair, patchByte, pieceLoad, uniformPart, bestPair, lineEffect}
-use Rattle.model.specs.Lanes.{laneCount, twentieths, transverseAt, bestOrdinate, secondLanes, lanes, deckOf, numberOn, otherLanes, unit, lowestIn, highestIn}
+use Rattle.model.specs.Lanes.{laneCount, twentieths, transverseAt, secondLanes, lanes, deckOf, numberOn, otherLanes, unit, lowestIn, highestIn}
 use Rattle.model.specs.Traffic.{bestInLane, laneEffect, setSum, bestNormal, bestOverload, bestOn, bestSum, effectOf, trafficValue}
 use Rattle.model.specs.Figures.{figures, Figure}
 
 -- every figure is as printed
 pub figures-hold : map (λ (f : Figure). f .given) figures ≡ map (λ (f : Figure). f .printed) figures
-unfolding signed32 wordAt misfit section chainFrom walk repeats returns namesTwice dynamicFactor decode fault1 fault2 fault3 fault4 fault5 fault6 fault7 fault8 fault9 fault11 jobTests jobVerdict verdict along ordinate pair patchByte pieceLoad uniformPart bestPair lineEffect laneCount secondLanes lanes deckOf numberOn otherLanes unit lowestIn highestIn twentieths transverseAt bestOrdinate bestInLane laneEffect setSum bestNormal bestOverload bestOn bestSum effectOf trafficValue minℤ maxℤ floorDiv ceilDiv ones onesIn
+unfolding signed32 wordAt misfit section chainFrom walk repeats returns namesTwice dynamicFactor decode fault1 fault2 fault3 fault4 fault5 fault6 fault7 fault8 fault9 fault11 jobTests jobVerdict verdict along ordinate pair patchByte pieceLoad uniformPart bestPair lineEffect laneCount secondLanes lanes deckOf numberOn otherLanes unit lowestIn highestIn twentieths transverseAt bestInLane laneEffect setSum bestNormal bestOverload bestOn bestSum effectOf trafficValue minℤ maxℤ floorDiv ceilDiv ones onesIn
 figures-hold = refl

@@ -1,5 +1,4 @@
 pub mod Figures
-pub mod Pigeonhole
 pub mod Chains
 pub mod Determined
 pub mod RuralBridges

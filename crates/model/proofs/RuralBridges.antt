@@ -1,4 +1,4 @@
--- The built-in rows of a farm bridge.
+-- The built-in rows of a rural bridge.
 use mathlib.Core.Path.{_≡_, refl}
 use Prim.Native.Nat.{ℕ, _-_}
 use lib.ListN.{take, drop}

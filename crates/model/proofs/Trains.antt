@@ -122,7 +122,7 @@ module _ (mode : Mode) (q : Question) (line : InfluenceLine) (signed : OneSigned
   reach long within AsGiven i l = div-mono long (within i l)
   reach long within Turned i l = div-mono long (omega arith)
 
-  -- NO STAND BEATS IT: either way round, on k-ths of a piece for every whole k, on either side, on the line or off
+  -- no stand beats it: either way round, on k-ths of a piece for every whole k, on either side, on the line or off
   pub train-bound : zero < line .h → ((i : ℕ) → i < length t → axleAt t i .at ≤ trainLength t) → (k : ℕ) (way : Way) (z : ℤ) (side : Side) → zero < k → NoBetter q (trainEffect mode q line t k way z side) (pos k *ℤ bestTrain mode q line t)
   train-bound long within k way z side h =
       subst (λ (x : ℤ). NoBetter q x (pos k *ℤ bestTrain mode q line t)) (sym (train-group way k z side h))

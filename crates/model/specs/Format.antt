@@ -128,7 +128,7 @@ listedCounts more =
     ∷ range 0 512  -- C
     ∷ more
 
--- those where effects are in N·U, and the words after 11
+-- the header's words from 7 on where effects are in N·U, and those after word 11
 abbrev pub newtonCounts : List Field → List Field
 newtonCounts more =
     listedCounts
@@ -215,7 +215,7 @@ noCounts = record { edition = First; h = 0; pieces = 0; spacing = 0; width = 0; 
 abbrev pub size : Part → ℕ
 size part = length (format noCounts part .fields)
 
--- and its bytes
+-- the bytes of an item of a part, in edition 1
 abbrev pub bytes : Part → ℕ
 bytes part = 4 * size part
 
@@ -223,7 +223,7 @@ bytes part = 4 * size part
 abbrev pub effectSize : EffectUnit → ℕ
 effectSize u = length (effectFields u highway)
 
--- and its bytes
+-- the bytes of an effect
 abbrev pub effectBytes : EffectUnit → ℕ
 effectBytes u = 4 * effectSize u
 
@@ -256,7 +256,7 @@ sectionOf b part = section b (headerOf b) part
 abbrev pub fault : List ℕ → Header → Part → Option ℕ
 fault b head part = moved (start head part) (misfit (format head part) (section b head part))
 
--- and in some parts, in order
+-- the lowest place at fault in some parts, in order
 abbrev pub faultIn : List ℕ → Header → List Part → Option ℕ
 faultIn b head [] = none
 faultIn b head (part ∷ rest) = orElse (fault b head part) (faultIn b head rest)

@@ -1,4 +1,4 @@
--- A placement by its lanes' entries: what each gives, and their sum.
+-- A placement by its lanes' entries: what each gives, and their sum. No promise cites it: the contracts of lanes and the proofs do.
 use mathlib.Core.{Path._≡_, Bool.Bool, Bool.true, Bool.false}
 use Prim.Native.Nat.{ℕ, _≤_}
 use lib.IntN.{ℤ, pos, _*ℤ_}

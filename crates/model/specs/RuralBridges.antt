@@ -1,4 +1,4 @@
--- Farm bridges (edition 4): the load combinations of Appendix D as its tables print them, and the rows that they are.
+-- Rural bridges (edition 4): the load combinations of Appendix D as its tables print them, and the rows that they are.
 use Prim.Native.Nat.{ℕ, zero, suc, _+_, _-_, _*_, _/_}
 use mathlib.Core.List.{List, [], _∷_, _++_}
 use lib.{ListN.getD, ListN.length, Dec.eqb, Dec.leb}
@@ -15,52 +15,40 @@ pub data Combination : Type 0 where
 
 -- ---- the loads, by the manual's symbols; the effects have their numbers in the job
 
--- the traffic, the live load times impact: the normal live kind with its dynamic factor
-abbrev pub LLxI : Combination
+abbrev pub LLxI : Combination  -- the traffic, the live load times impact: the normal live kind with its dynamic factor
 LLxI = load 0
 
--- dead load
-abbrev pub DL : Combination
+abbrev pub DL : Combination  -- dead load
 DL = load 1
 
--- earth pressure
-abbrev pub EP : Combination
+abbrev pub EP : Combination  -- earth pressure
 EP = load 2
 
--- ordinary water flow and buoyancy
-abbrev pub OW : Combination
+abbrev pub OW : Combination  -- ordinary water flow and buoyancy
 OW = load 3
 
--- shrinkage and creep
-abbrev pub SG : Combination
+abbrev pub SG : Combination  -- shrinkage and creep
 SG = load 4
 
--- settlement
-abbrev pub ST : Combination
+abbrev pub ST : Combination  -- settlement
 ST = load 5
 
--- temperature
-abbrev pub TP : Combination
+abbrev pub TP : Combination  -- temperature
 TP = load 6
 
--- horizontal effects of traffic
-abbrev pub HE : Combination
+abbrev pub HE : Combination  -- horizontal effects of traffic
 HE = load 7
 
--- wind
-abbrev pub WD : Combination
+abbrev pub WD : Combination  -- wind
 WD = load 8
 
--- flood water flow and buoyancy
-abbrev pub FW : Combination
+abbrev pub FW : Combination  -- flood water flow and buoyancy
 FW = load 9
 
--- earthquake
-abbrev pub EQ : Combination
+abbrev pub EQ : Combination  -- earthquake
 EQ = load 10
 
--- construction
-abbrev pub CN : Combination
+abbrev pub CN : Combination  -- construction
 CN = load 11
 
 -- ---- the tables, a line a group, factors in hundredths; group 4 is not applicable

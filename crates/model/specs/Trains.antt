@@ -25,7 +25,7 @@ abbrev pub distance : Way → List Axle → ℕ → ℕ
 distance AsGiven t i = axleAt t i .at
 distance Turned t i = trainLength t - axleAt t i .at
 
--- what an axle counts of its ordinate: all of it; or nothing where it relieves, below 0 for greatest and above for least
+-- what an axle counts of its ordinate: all of it; or nothing where it relieves, below 0 for greatest and above for least (house rule after 3.2.6)
 abbrev pub counted : Mode → Question → ℤ → ℤ
 counted AllAxles q y = y
 counted NoRelief q y = better q y (pos 0)
@@ -44,7 +44,7 @@ unfoldable pub bestOneWay : Mode → Question → InfluenceLine → List Axle �
 bestOneWay mode q line t way =
     extreme q (line .pieces + trainLength t / line .h) (λ s. better q (trainEffect mode q line t 1 way (trainStation line t s) Left) (trainEffect mode q line t 1 way (trainStation line t s) Right))
 
--- and both ways round
+-- the best effect over both ways round
 unfoldable pub bestTrain : Mode → Question → InfluenceLine → List Axle → ℤ
 bestTrain mode q line t = better q (bestOneWay mode q line t AsGiven) (bestOneWay mode q line t Turned)
 

@@ -27,7 +27,7 @@ fit-at [] f k h = absurd (not-suc-le-zero h)
 fit-at (z ∷ zs) f zero h = f .0
 fit-at (z ∷ zs) f (suc k) h = fit-at zs (f .1) k (le-of-suc-le-suc h)
 
--- THE HOST READS WHAT WAS WRITTEN, of numbers that 64 bits hold
+-- the host reads what was written, of numbers that 64 bits hold
 pub number-read : (zs : List ℤ) (rest : List ℕ) → AllFit zs → ReadBack (numbersBytes zs ++ rest) zs
 number-read zs rest fit k h =
     let f = fit-at zs fit k h in

@@ -13,7 +13,7 @@ pub record WordFits (s : List ℕ) (k : ℕ) : Type 0 where
   pub room : 4 * k + 4 ≤ length s
   pub near : Within ordinateMost (wordAt s k)
 
--- so are the words of n pieces
+-- the words of n pieces are there and within their limits
 pub record LineFits (s : List ℕ) (n : ℕ) : Type 0 where
   pub room : bytes Line * n ≤ length s
   pub few : n ≤ piecesMost

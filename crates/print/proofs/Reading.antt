@@ -123,7 +123,7 @@ account-ended a =
 refusal-ended : (number place : ℕ) → Ended (refusalLine number place)
 refusal-ended number place = record { body = (ascii "refused " ++ decimal number) ++ (ascii " at " ++ decimal place); is = refl }
 
--- NO ANSWER'S TEXT BEGINS ANOTHER'S: one that was cut short is no answer's
+-- no answer's text begins another's: one that was cut short is no answer's
 pub cut-short : (a b : Answer) (rest : List ℕ) → answerText a ≡ answerText b ++ rest → rest ≡ []
 cut-short a b rest = by (eqb (a .refusal) 0) (eqb (b .refusal) 0)
   where

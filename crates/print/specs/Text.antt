@@ -1,4 +1,4 @@
--- What the programs print of an answer, as ASCII bytes. An accepted job has four lines, a refused one has one; a newline ends each:
+-- What the program prints of an answer, as ASCII bytes. An accepted job has four lines, a refused one has one; a newline ends each:
 --   normal greatest V least V
 --   overload greatest V least V
 --   service greatest V row R least V row R, or: service none

@@ -6,6 +6,7 @@ ghost use lib.ListN.{length};
 // More cases than any file has.
 const MOST_CASES: u64 = 1000000;
 
+// A byte as a number.
 fn wide(b: u8) -> usize
     ensures { λ r. ⌜ r ≤ 255 ⌝ }
 {
@@ -69,6 +70,7 @@ fn one(fd: i32) -> bool {
     false
 }
 
+// Reads and answers every case.
 fn all(fd: i32) {
     let mut left = MOST_CASES;
     while left > 0 && one(fd) {

@@ -9,7 +9,7 @@ ghost use lib.ListN.{length, drop};
 ghost use Rattle.model.specs.Numbers.{wayNumber};
 ghost use Rattle.model.specs.Trains.{reportSize};
 ghost use Rattle.numbers.specs.NumberBytes.{numbersBytes, Written, ReadBack};
-ghost use Rattle.reports.specs.ReportNumbers.{standNumbers, reportNumbers, cleared};
+ghost use Rattle.reports.specs.ReportNumbers.{standNumbers, reportNumbers};
 
 // The bytes of a report.
 pub const SIZE: usize = 72;
@@ -48,15 +48,4 @@ pub fn write(out: &mut [u8], r: Rating)
     end = numbers::put_signed(out, end, r.difference);
     end = put_stand(out, end, greatest);
     put_stand(out, end, least);
-}
-
-// Zeros for a report, as far as the buffer has its bytes.
-pub fn clear(out: &mut [u8])
-    ensures { λ _. ⌜ now (out .exit) ≡ cleared (now (out .entry)) ⌝ }
-{
-    if out.len() < SIZE {
-        buffer::put_zeros(out, 0, out.len());
-        return;
-    }
-    buffer::put_zeros(out, 0, SIZE);
 }

@@ -93,7 +93,7 @@ found x = if eqb (x .row) 0 then none else some (governed x)
 abbrev pub laterRow : Question → Governing → Governing → Governing
 laterRow q sofar next = if eqb (sofar .row) 0 then next else (if beats q (next .value) (sofar .value) then next else sofar)
 
--- for each question by itself
+-- the later rows of both questions, each by itself
 abbrev pub laterRows : RowBoth → RowBoth → RowBoth
 laterRows sofar next = record { greatest = laterRow Greatest (sofar .greatest) (next .greatest); least = laterRow Least (sofar .least) (next .least) }
 
@@ -121,7 +121,7 @@ FoundRight effect row traffic n x = (limit : Limit) (q : Question) → RowFound 
 abbrev pub stateBy : RowBoth → State
 stateBy x = if eqb (x .greatest .row) 0 then Absent else Reported (x .greatest) (x .least)
 
--- one of the two
+-- a limit state of the two
 abbrev pub stateFor : Limit → LimitStates → State
 stateFor service x = x .service
 stateFor ultimate x = x .ultimate

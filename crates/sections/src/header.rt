@@ -38,7 +38,7 @@ fn second_width(s: &[u8], edition: Edition) -> usize
     }
 }
 
-// Its words as counts.
+// The header's words as counts.
 pub fn read(s: &[u8]) -> Header
     requires { ⌜ 4 * words (headerOf (now s)) Head ≤ length (now s) ⌝ }
     ensures { λ r. ⌜ r ≡ headerOf (now (s .entry)) ⌝ }
@@ -72,7 +72,7 @@ pub fn size(head: Header) -> usize
     }
 }
 
-// Its own bytes, whatever its words say.
+// The header's own bytes, whatever its words say.
 pub fn section(s: &[u8], head: Header) -> &[u8]
     requires { ⌜ 4 * words head Head ≤ length (now s) ⌝ }
     ensures { λ r. ⌜ now r ≡ section (now (s .entry)) head Head ⌝ }

@@ -20,7 +20,7 @@ pub record SpacedRight (way : Way) (h : ℕ) (t : List Axle) (r : Spaced) : Type
   pub load : (i : ℕ) → i < length t → axleAt (r .axles) i .load ≡ axleAt t i .load
   pub at : (i : ℕ) → i < length t → axleAt (r .axles) i .at ≡ distance way t i / h
 
--- of that what the sums need
+-- what the sums need of a train one way round
 pub record SpacedFits (r : Spaced) : Type 0 where
   pub few : r .count ≤ 12
   pub short : r .length ≤ 500

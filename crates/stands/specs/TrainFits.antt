@@ -18,7 +18,7 @@ pub record TrainFits (t : List Axle) : Type 0 where
   pub at : (i : ℕ) → i < length t → axleAt t i .at ≤ trainLength t
   pub short : trainLength t ≤ 500
 
--- and a line of n pieces, each of one sign
+-- a train that fits, and a line of n pieces, each of one sign
 pub record Ratable (s : List ℕ) (h n : ℕ) (t : List Axle) : Type 0 where
   pub line : LineFits s n
   pub sided : misfit (signs n) s ≡ none

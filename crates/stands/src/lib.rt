@@ -62,7 +62,7 @@ pub struct Sums {
     pub least: i64,
 }
 
-// With one axle more.
+// What a train counts with one axle more.
 fn added(mode: Mode, s: Sums, load: u32, ordinate: i16) -> Sums
     requires { ⌜ (load ≤ 400) × Within ordinateMost ordinate × ((q : Question) → Within trainMost (sumFor q s)) ⌝ }
     ensures { λ r. ⌜ ((q : Question) → sumFor q r ≡ sumFor q s +ℤ pos load *ℤ counted mode q ordinate) ⌝ }
@@ -131,7 +131,7 @@ pub struct Best {
     pub place: usize,
 }
 
-// With one place more.
+// The best so far with one place more.
 fn improved(q: Question, best: Best, value: i64, place: usize) -> Best
     ensures { λ r. ⌜ r ≡ (if beats q value (best .value) then record { value = value; place = place } else best) ⌝ }
 {
@@ -147,7 +147,7 @@ pub struct Bests {
     pub least: Best,
 }
 
-// With one place more.
+// The bests so far of both questions with one place more.
 fn bettered(best: Bests, s: Sums, place: usize) -> Bests
     ensures { λ r. ⌜ ((q : Question) → bestIn q r ≡ (if beats q (sumFor q s) (bestIn q best .value) then record { value = sumFor q s; place = place } else bestIn q best)) ⌝ }
 {

@@ -39,7 +39,7 @@ values-same mode line t r s x y (suc (suc zero)) l =
     x .difference ∙ ap₂ _-ℤ_ (x .extremes Greatest .value ∙ sym (y .extremes Greatest .value)) (x .extremes Least .value ∙ sym (y .extremes Least .value)) ∙ sym (y .difference)
 values-same mode line t r s x y (suc (suc (suc k))) l = absurd (omega arith)
 
--- THE SAME CALL GIVES THE SAME: result, greatest, least and difference
+-- the same call gives the same result, greatest, least and difference
 pub same-rating : {c : TrainCall} {before a b : List ℕ} {m n : ℕ} → Rated c before m a → Rated c before n b → (m ≡ n) × ((k : ℕ) → k < 3 → numberOf (drop (8 * k) a) ≡ numberOf (drop (8 * k) b))
 same-rating {c} {before} {a} {b} {m} {n} x y = (result-is x ∙ sym (result-is y), go x y)
   where

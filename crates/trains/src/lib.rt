@@ -201,7 +201,7 @@ pub fn rate(
 {
     let refusal = verdict(h, pieces, line, g, mode, report.len());
     if refusal != 0 {
-        reports::clear(report);
+        buffer::clear(report, reports::SIZE);
         return refusal;
     }
     let axles = g.axles;

@@ -33,7 +33,7 @@ within m item x = between (negℤ (pos m)) (pos m) x
 abbrev pub wideWithin : ℕ → (high : ℤ) → Field
 wideWithin m high item low = between (negℤ (pos m)) (pos m) (wide low high)
 
--- one of these
+-- one of these numbers
 abbrev pub oneOf : List ℕ → Field
 oneOf [] item x = false
 oneOf (m ∷ rest) item x = range m m item x || oneOf rest item x
@@ -63,7 +63,7 @@ infix 3 _of_
 abbrev pub _of_ : ℕ → List Field → Layout
 n of fields = record { items = n; fields = fields }
 
--- its words
+-- a section's words
 abbrev pub wordsIn : Layout → ℕ
 wordsIn l = length (l .fields) * l .items
 
@@ -75,7 +75,7 @@ moved start (some p) = some (start + p)
 -- the first of an item's fields that does not admit its word, the fields counting from j
 abbrev pub misfitFrom : ℕ → List Field → Item → Option ℕ
 misfitFrom j [] item = none
-misfitFrom j (admits ∷ rest) item = if admits item (item .word j) then misfitFrom (suc j) rest item else some j
+misfitFrom j (field ∷ rest) item = if field item (item .word j) then misfitFrom (suc j) rest item else some j
 
 -- item i, whose first word is at place p
 abbrev pub itemFrom : List ℕ → ℕ → ℕ → Item

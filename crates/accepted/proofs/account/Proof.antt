@@ -53,8 +53,8 @@ module _ (c : tie.After-limit-states) where
 
 -- each kind's values, each sense's position and each limit state make the parts of an account
 parts : {job : Job} {a : Account} → TrafficFound job normal (a .normal) → TrafficFound job overload (a .overload) → PositionRight (job .line) Raising (a .raising) → PositionRight (job .line) Lowering (a .lowering) →
-    StateOf job a service (a .service) → StateOf job a ultimate (a .ultimate) → a .lanes ≡ lanesOf (job .deck) → a .second ≡ secondLanes job → PartsRight job a
-parts {job} {a} n o r l s u count second = record { traffic = placed; positions = positions; states = by-limit (λ limit. StateOf job a limit (stateIn a limit)) s u; laneCount = count; secondCount = second }
+    StateOf job a service (a .service) → StateOf job a ultimate (a .ultimate) → a .first ≡ lanesOf (job .deck) → a .second ≡ secondLanes job → PartsRight job a
+parts {job} {a} n o r l s u count second = record { traffic = placed; positions = positions; states = by-limit (λ limit. StateOf job a limit (stateIn a limit)) s u; firstCount = count; secondCount = second }
   where
     placed : (q : Question) (live : Live) → HasTraffic live → TrafficPlaced q job live (extremeOf q (trafficIn a live))
     placed q normal h = n .placed q
@@ -70,7 +70,7 @@ returns c =
     let made = made (found .before) in
     let v = made .values .ensures in
     let sought = made .before .before .before .sought .ensures in
-    parts (v .normal) (v .overload) (sought Raising .position) (sought Lowering .position) (handed found service) (handed found ultimate) (v .laneCount) (v .secondCount)
+    parts (v .normal) (v .overload) (sought Raising .position) (sought Lowering .position) (handed found service) (handed found ultimate) (v .firstCount) (v .secondCount)
 
 pub account-spec : {M : Type 1} → statement M
 account-spec = tie.close (tie.spec (λ c κs. search needs) values-requires limit-states-requires returns)

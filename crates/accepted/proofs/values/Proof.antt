@@ -118,7 +118,7 @@ returns c =
     record {
       normal = record { placed = by-question _ (g .0) (l .0); near = by-question _ (most .0) (lowest .0) };
       overload = record { placed = by-question _ (g .1) (l .1); near = by-question _ (most .1) (lowest .1) };
-      laneCount = over at .first;
+      firstCount = over at .first;
       secondCount = over at .second;
     }
 
