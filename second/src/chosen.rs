@@ -4,12 +4,14 @@
 //! Those of edition 4 are in chosen/farm.rs, those of edition 2 in
 //! chosen/edition_2.rs, those with spans by sign in chosen/spans.rs, those of edition 3
 //! in chosen/edition_3.rs. Those of additional overload lanes, in
-//! chosen/overload_lanes.rs, go with no one stream.
+//! chosen/overload_lanes.rs, go with no one stream. Those of chosen/places.rs, refused at
+//! places where no other is, end each edition's.
 
 mod edition_2;
 pub mod edition_3;
 mod farm;
 pub mod overload_lanes;
+pub mod places;
 mod spans;
 
 use crate::edition::Edition;
@@ -118,7 +120,7 @@ pub fn stored_after(stream: Stream) -> impl Iterator<Item = Case> {
 
 /// The chosen cases that go with a stream, in the order in which they are stored.
 pub fn cases(stream: Stream) -> impl Iterator<Item = Case> {
-    let cases: Vec<Case> = match stream {
+    let mut cases: Vec<Case> = match stream {
         Stream::One => {
             let built = BUILDERS.into_iter().map(|build| build());
             built
@@ -127,9 +129,10 @@ pub fn cases(stream: Stream) -> impl Iterator<Item = Case> {
         }
         Stream::Two => edition_2::cases(),
         Stream::Four => farm::cases(),
-        Stream::Spans => spans::cases(),
+        Stream::Spans => return spans::cases().into_iter(),
         Stream::Three => edition_3::cases(),
     };
+    cases.extend(places::cases(stream.edition()));
     cases.into_iter()
 }
 

@@ -39,7 +39,7 @@ fn place_labels(words: &[i32], number: u64, place: usize) -> Vec<String> {
     if number == 2 {
         return header_labels(words, place);
     }
-    let mut labels = section_labels(words, place, 3);
+    let mut labels = section_labels(words, place);
     let sections = Sections::called_for_by(words);
     if sections.effects.contains(&place) {
         labels.extend(effect_labels(words, &sections, place));

@@ -44,7 +44,7 @@ fn place_labels(words: &[i32], number: u64, place: usize) -> Vec<String> {
     match number {
         2 => header_labels(words, place),
         4 => ordinate_labels(words, place),
-        _ => section_labels(words, place, 3),
+        _ => section_labels(words, place),
     }
 }
 
@@ -65,7 +65,7 @@ fn header_labels(words: &[i32], place: usize) -> Vec<String> {
 
 /// The section of the ordinate at fault and those with another fault.
 fn ordinate_labels(words: &[i32], place: usize) -> Vec<String> {
-    let mut labels = section_labels(words, place, 3);
+    let mut labels = section_labels(words, place);
     let sections = Sections::called_for_by(words);
     if sections.line.contains(&place) {
         labels.push(format!("an ordinate of {}", words[place]));

@@ -59,7 +59,7 @@ fn refusal_labels(case: &Case, answer: &Answer) -> Vec<String> {
             _ => "some bytes short",
         }),
         _ => {
-            for label in section_labels(&words, place, 2) {
+            for label in section_labels(&words, place) {
                 reached(&label);
             }
             let rows = Sections::called_for_by(&words).rows;

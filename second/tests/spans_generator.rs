@@ -40,7 +40,7 @@ fn labels(case: &Case) -> Vec<String> {
 fn place_labels(words: &[i32], number: u64, place: usize) -> Vec<String> {
     match number {
         2 => header_labels(words, place),
-        _ => section_labels(words, place, 3),
+        _ => section_labels(words, place),
     }
 }
 

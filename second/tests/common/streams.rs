@@ -6,7 +6,7 @@ use second::generator::{case, damaged, faults_of, Case, Stream};
 use second::job::Job;
 use second::lanes::lanes_of_job;
 use second::rng::Rng;
-use second::sections::Sections;
+use second::sections::{Sections, WORDS_PER_PIECE, WORDS_PER_RECORD, WORDS_PER_ROW};
 use second::words::{words_of, WORD_BYTES};
 use second::{chosen, solve, store, Answer};
 use std::collections::BTreeSet;
@@ -213,29 +213,48 @@ pub fn header_word_labels(words: &[i32], place: usize) -> Vec<String> {
     labels
 }
 
-/// The place within its section.
-pub fn section_labels(words: &[i32], place: usize, words_per_effect: usize) -> Vec<String> {
+/// A place among the entries of a section.
+pub struct EntryPlace {
+    pub entry: &'static str,
+    /// The entry's number, from 0, and how many there are.
+    pub number: usize,
+    pub entries: usize,
+    /// The word of the entry, from 0.
+    pub word: usize,
+}
+
+pub fn entry_place(words: &[i32], place: usize) -> Option<EntryPlace> {
     let sections = Sections::called_for_by(words);
-    let mut labels = vec![];
-    for (name, section, each) in [
-        ("piece", sections.line, 2),
+    let edition = Edition::of_words(words).expect("the edition is admitted");
+    [
+        ("piece", sections.line, WORDS_PER_PIECE),
         ("transverse", sections.transverse, 1),
         ("second transverse", sections.second_transverse, 1),
-        ("effect", sections.effects, words_per_effect),
-        ("row", sections.rows, 4),
-        ("record", sections.records, 3),
-    ] {
-        if !section.contains(&place) {
-            continue;
-        }
-        let within = place - section.start;
-        labels.push(format!("{name} word {}", within % each));
-        if within < each {
-            labels.push(format!("first {name}"));
-        }
-        if place + each >= section.end {
-            labels.push(format!("last {name}"));
-        }
+        ("effect", sections.effects, edition.words_per_effect()),
+        ("row", sections.rows, WORDS_PER_ROW),
+        ("record", sections.records, WORDS_PER_RECORD),
+    ]
+    .into_iter()
+    .find(|(_, section, _)| section.contains(&place))
+    .map(|(entry, section, each)| EntryPlace {
+        entry,
+        number: (place - section.start) / each,
+        entries: section.len() / each,
+        word: (place - section.start) % each,
+    })
+}
+
+/// The place within its section.
+pub fn section_labels(words: &[i32], place: usize) -> Vec<String> {
+    let Some(at) = entry_place(words, place) else {
+        return vec![];
+    };
+    let mut labels = vec![format!("{} word {}", at.entry, at.word)];
+    if at.number == 0 {
+        labels.push(format!("first {}", at.entry));
+    }
+    if at.number + 1 == at.entries {
+        labels.push(format!("last {}", at.entry));
     }
     labels
 }
