@@ -3,7 +3,7 @@
 
 mod common;
 
-use common::call::{refuses, takes, Call, Change};
+use common::call::{refuses, refuses_accounts, takes_accounts, Call, Change};
 use common::{definition, level_job, pieces, two_lane_job};
 use second::account::{Lane, State, Traffic};
 use second::chosen::overload_lanes::lanes_job;
@@ -101,39 +101,37 @@ fn wrong_patch_bytes_are_refused() {
 
 #[test]
 fn wrong_values_are_refused() {
-    refuses(
+    refuses_accounts(
         &Call::of(&two_lane_job()),
         &[
-            ("Normal Greatest is 10319399", |call| {
-                call.answer.account.normal_greatest.value -= 1
+            ("Normal Greatest is 10319399", |account| {
+                account.normal_greatest.value -= 1
             }),
-            ("Normal Greatest is 10319401", |call| {
-                call.answer.account.normal_greatest.value += 1
+            ("Normal Greatest is 10319401", |account| {
+                account.normal_greatest.value += 1
             }),
-            ("Normal Least is", |call| {
-                call.answer.account.normal_least.value += 1
+            ("Normal Least is", |account| account.normal_least.value += 1),
+            ("Overload Greatest is", |account| {
+                account.overload_greatest.value -= 1
             }),
-            ("Overload Greatest is", |call| {
-                call.answer.account.overload_greatest.value -= 1
+            ("Overload Least is", |account| {
+                account.overload_least.value = 0
             }),
-            ("Overload Least is", |call| {
-                call.answer.account.overload_least.value = 0
+            ("service Greatest is", |account| {
+                account.service.greatest.value -= 1000
             }),
-            ("service Greatest is", |call| {
-                call.answer.account.service.greatest.value -= 1000
+            ("service Least is", |account| {
+                account.service.least.value += 1
             }),
-            ("service Least is", |call| {
-                call.answer.account.service.least.value += 1
+            ("ultimate Greatest is", |account| {
+                account.ultimate.greatest.value = 0
             }),
-            ("ultimate Greatest is", |call| {
-                call.answer.account.ultimate.greatest.value = 0
-            }),
-            ("ultimate Least is", |call| {
-                call.answer.account.ultimate.least.value -= 1
+            ("ultimate Least is", |account| {
+                account.ultimate.least.value -= 1
             }),
             // The placement that lane 1 alone would be, with its value.
-            ("Normal Greatest is 10237500", |call| {
-                let traffic = &mut call.answer.account.normal_greatest;
+            ("Normal Greatest is 10237500", |account| {
+                let traffic = &mut account.normal_greatest;
                 traffic.value = 10237500;
                 traffic.set = 1;
                 traffic.lanes[1] = Lane::default();
@@ -145,35 +143,28 @@ fn wrong_values_are_refused() {
 #[test]
 fn wrong_stands_are_refused() {
     // Raising at -1, lowering at 3, on a line without jumps.
-    refuses(
+    refuses_accounts(
         &Call::of(&two_lane_job()),
         &[
-            ("the raising stand", |call| {
-                call.answer.account.raising.station = 1
+            ("the raising stand", |account| account.raising.station = 1),
+            ("the raising stand", |account| account.raising.station = -2),
+            ("the raising stand", |account| {
+                account.raising.station = i64::MIN
             }),
-            ("the raising stand", |call| {
-                call.answer.account.raising.station = -2
+            ("the raising stand", |account| {
+                account.raising.station = i64::MAX
             }),
-            ("the raising stand", |call| {
-                call.answer.account.raising.station = i64::MIN
+            ("the raising stand has side 2", |account| {
+                account.raising.side = 2
             }),
-            ("the raising stand", |call| {
-                call.answer.account.raising.station = i64::MAX
+            ("the lowering stand", |account| {
+                account.lowering.station = -1
             }),
-            ("the raising stand has side 2", |call| {
-                call.answer.account.raising.side = 2
+            ("the lowering stand", |account| account.lowering.station = 0),
+            ("the lowering stand has side", |account| {
+                account.lowering.side = u32::MAX
             }),
-            ("the lowering stand", |call| {
-                call.answer.account.lowering.station = -1
-            }),
-            ("the lowering stand", |call| {
-                call.answer.account.lowering.station = 0
-            }),
-            ("the lowering stand has side", |call| {
-                call.answer.account.lowering.side = u32::MAX
-            }),
-            ("the raising stand", |call| {
-                let account = &mut call.answer.account;
+            ("the raising stand", |account| {
                 std::mem::swap(&mut account.raising, &mut account.lowering);
             }),
         ],
@@ -186,15 +177,11 @@ fn an_unused_stand_is_checked_too() {
     // The transverse line is 0, so nothing rests on the stands.
     let mut job = level_job(300, 50, vec![0; 7]);
     job.pieces = pieces(&[(8, 8), (9, 9)]);
-    refuses(
+    refuses_accounts(
         &Call::of(&job),
         &[
-            ("the raising stand", |call| {
-                call.answer.account.raising.station = -1
-            }),
-            ("the lowering stand", |call| {
-                call.answer.account.lowering.station = 1
-            }),
+            ("the raising stand", |account| account.raising.station = -1),
+            ("the lowering stand", |account| account.lowering.station = 1),
         ],
     );
 }
@@ -202,26 +189,26 @@ fn an_unused_stand_is_checked_too() {
 #[test]
 fn wrong_placements_are_refused() {
     // Two lanes; normal greatest is HN raising at 300 and HN lowering at 1140.
-    refuses(
+    refuses_accounts(
         &Call::of(&two_lane_job()),
         &[
-            ("does not agree with the lane set", |call| {
-                call.answer.account.normal_greatest.set = 0b01
+            ("does not agree with the lane set", |account| {
+                account.normal_greatest.set = 0b01
             }),
-            ("does not agree with the lane set", |call| {
-                call.answer.account.normal_greatest.set = 0b111
+            ("does not agree with the lane set", |account| {
+                account.normal_greatest.set = 0b111
             }),
-            ("does not agree with the lane set", |call| {
-                call.answer.account.normal_greatest.set |= 1 << 5
+            ("does not agree with the lane set", |account| {
+                account.normal_greatest.set |= 1 << 5
             }),
-            ("names no lane", |call| {
-                call.answer.account.normal_greatest.set |= 1 << 10
+            ("names no lane", |account| {
+                account.normal_greatest.set |= 1 << 10
             }),
-            ("names no lane", |call| {
-                call.answer.account.normal_greatest.set |= 1 << 31
+            ("names no lane", |account| {
+                account.normal_greatest.set |= 1 << 31
             }),
-            ("past the last lane", |call| {
-                let traffic = &mut call.answer.account.normal_greatest;
+            ("past the last lane", |account| {
+                let traffic = &mut account.normal_greatest;
                 traffic.set = 0b111;
                 traffic.lanes[2] = Lane {
                     entry: 1,
@@ -229,67 +216,66 @@ fn wrong_placements_are_refused() {
                     factor: 0,
                 };
             }),
-            ("unloaded but has a centre", |call| {
-                call.answer.account.normal_greatest.lanes[2].centre = 1
+            ("unloaded but has a centre", |account| {
+                account.normal_greatest.lanes[2].centre = 1
             }),
-            ("does not agree with the lane set", |call| {
-                call.answer.account.normal_greatest.lanes[4].entry = 1
+            ("does not agree with the lane set", |account| {
+                account.normal_greatest.lanes[4].entry = 1
             }),
-            ("stands for nothing", |call| {
-                call.answer.account.normal_greatest.lanes[0].entry = 5
+            ("stands for nothing", |account| {
+                account.normal_greatest.lanes[0].entry = 5
             }),
-            ("stands for nothing", |call| {
-                call.answer.account.normal_greatest.lanes[1].entry = u32::MAX
+            ("stands for nothing", |account| {
+                account.normal_greatest.lanes[1].entry = u32::MAX
             }),
-            ("placement's effect", |call| {
-                call.answer.account.normal_greatest.lanes[1].entry = 1
+            ("placement's effect", |account| {
+                account.normal_greatest.lanes[1].entry = 1
             }),
-            ("placement's effect", |call| {
-                call.answer.account.normal_greatest.lanes[0].entry = 2
+            ("placement's effect", |account| {
+                account.normal_greatest.lanes[0].entry = 2
             }),
-            ("an HO element in normal", |call| {
-                call.answer.account.normal_greatest.lanes[0].entry = 3
+            ("an HO element in normal", |account| {
+                account.normal_greatest.lanes[0].entry = 3
             }),
-            ("0 HO elements in overload", |call| {
-                call.answer.account.overload_greatest.lanes[0].entry = 1
+            ("0 HO elements in overload", |account| {
+                account.overload_greatest.lanes[0].entry = 1
             }),
-            ("2 HO elements in overload", |call| {
-                call.answer.account.overload_least.lanes[1].entry = 3
+            ("2 HO elements in overload", |account| {
+                account.overload_least.lanes[1].entry = 3
             }),
-            ("outside the lane's limits", |call| {
-                call.answer.account.normal_greatest.lanes[0].centre = 299
+            ("outside the lane's limits", |account| {
+                account.normal_greatest.lanes[0].centre = 299
             }),
-            ("outside the lane's limits", |call| {
-                call.answer.account.normal_greatest.lanes[1].centre = 1141
+            ("outside the lane's limits", |account| {
+                account.normal_greatest.lanes[1].centre = 1141
             }),
-            ("outside the lane's limits", |call| {
-                call.answer.account.overload_least.lanes[0].centre = i64::MIN
+            ("outside the lane's limits", |account| {
+                account.overload_least.lanes[0].centre = i64::MIN
             }),
-            ("outside the lane's limits", |call| {
-                call.answer.account.overload_least.lanes[0].centre = i64::MAX
+            ("outside the lane's limits", |account| {
+                account.overload_least.lanes[0].centre = i64::MAX
             }),
-            ("placement's effect", |call| {
-                call.answer.account.normal_greatest.lanes[0].centre = 301
+            ("placement's effect", |account| {
+                account.normal_greatest.lanes[0].centre = 301
             }),
-            ("placement's effect", |call| {
-                call.answer.account.overload_greatest.lanes[1].centre = 1139
+            ("placement's effect", |account| {
+                account.overload_greatest.lanes[1].centre = 1139
             }),
             // Lane 2 left out, with the value kept.
-            ("placement's effect", |call| {
-                let traffic = &mut call.answer.account.normal_least;
+            ("placement's effect", |account| {
+                let traffic = &mut account.normal_least;
                 traffic.set = 1;
                 traffic.lanes[1] = Lane::default();
             }),
             // The placements of greatest and least changed about.
-            ("placement's effect", |call| {
-                let account = &mut call.answer.account;
+            ("placement's effect", |account| {
                 let (greatest, least) = (account.normal_greatest, account.normal_least);
                 account.normal_greatest.lanes = least.lanes;
                 account.normal_least.lanes = greatest.lanes;
             }),
             // The HO lane changed about.
-            ("placement's effect", |call| {
-                let lanes = &mut call.answer.account.overload_greatest.lanes;
+            ("placement's effect", |account| {
+                let lanes = &mut account.overload_greatest.lanes;
                 (lanes[0].entry, lanes[1].entry) = (1, 4);
                 (lanes[0].factor, lanes[1].factor) = (20, 0);
             }),
@@ -398,14 +384,14 @@ fn a_factor_on_another_lane_is_refused() {
                 (lanes[1].factor, lanes[lane].factor) = (lanes[lane].factor, 0);
             });
         }
-        refuses(
+        refuses_accounts(
             &call,
             &[
-                ("lane 1: has a factor but is", |call| {
-                    call.answer.account.normal_greatest.lanes[0].factor = 20
+                ("lane 1: has a factor but is", |account| {
+                    account.normal_greatest.lanes[0].factor = 20
                 }),
-                ("lane 2: has a factor but is", |call| {
-                    call.answer.account.normal_least.lanes[1].factor = 18
+                ("lane 2: has a factor but is", |account| {
+                    account.normal_least.lanes[1].factor = 18
                 }),
             ],
         );
@@ -512,53 +498,53 @@ fn refuses_wrong_factors_of_lane_1(call: &Call, of: Overload) {
 fn wrong_states_are_refused() {
     // Service: rows 1 and 2 tie; greatest leaves out effect 2 of effects 1, 2.
     // Ultimate: row 3; greatest leaves out effect 2, least effect 4.
-    refuses(
+    refuses_accounts(
         &Call::of(&two_lane_job()),
         &[
-            ("whether service has rows", |call| {
-                call.answer.account.service = State::default()
+            ("whether service has rows", |account| {
+                account.service = State::default()
             }),
-            ("whether ultimate has rows", |call| {
-                call.answer.account.ultimate.present = 2
+            ("whether ultimate has rows", |account| {
+                account.ultimate.present = 2
             }),
-            ("service Greatest's row is 2, 1 is due", |call| {
-                call.answer.account.service.greatest.row = 2
+            ("service Greatest's row is 2, 1 is due", |account| {
+                account.service.greatest.row = 2
             }),
-            ("service Least's row is 2", |call| {
-                call.answer.account.service.least.row = 2
+            ("service Least's row is 2", |account| {
+                account.service.least.row = 2
             }),
-            ("ultimate Least's row is 0", |call| {
-                call.answer.account.ultimate.least.row = 0
+            ("ultimate Least's row is 0", |account| {
+                account.ultimate.least.row = 0
             }),
-            ("ultimate Greatest's row is 33", |call| {
-                call.answer.account.ultimate.greatest.row = 33
+            ("ultimate Greatest's row is 33", |account| {
+                account.ultimate.greatest.row = 33
             }),
-            ("effect 1 may not be left out", |call| {
-                call.answer.account.service.greatest.omitted |= 0b0001
+            ("effect 1 may not be left out", |account| {
+                account.service.greatest.omitted |= 0b0001
             }),
-            ("not on its chain", |call| {
-                call.answer.account.service.greatest.omitted |= 0b1000
+            ("not on its chain", |account| {
+                account.service.greatest.omitted |= 0b1000
             }),
-            ("not on its chain", |call| {
-                call.answer.account.ultimate.greatest.omitted |= 0b0100
+            ("not on its chain", |account| {
+                account.ultimate.greatest.omitted |= 0b0100
             }),
-            ("not on its chain", |call| {
-                call.answer.account.ultimate.greatest.omitted |= 1 << 31
+            ("not on its chain", |account| {
+                account.ultimate.greatest.omitted |= 1 << 31
             }),
-            ("what it comes to", |call| {
-                call.answer.account.service.greatest.omitted = 0
+            ("what it comes to", |account| {
+                account.service.greatest.omitted = 0
             }),
-            ("what it comes to", |call| {
-                call.answer.account.service.least.omitted = 0b0010
+            ("what it comes to", |account| {
+                account.service.least.omitted = 0b0010
             }),
-            ("what it comes to", |call| {
-                call.answer.account.ultimate.least.omitted = 0b0010
+            ("what it comes to", |account| {
+                account.ultimate.least.omitted = 0b0010
             }),
-            ("what it comes to", |call| {
-                call.answer.account.ultimate.greatest.traffic_left_out = 1
+            ("what it comes to", |account| {
+                account.ultimate.greatest.traffic_left_out = 1
             }),
-            ("traffic left out is 2", |call| {
-                call.answer.account.ultimate.greatest.traffic_left_out = 2
+            ("traffic left out is 2", |account| {
+                account.ultimate.greatest.traffic_left_out = 2
             }),
         ],
     );
@@ -570,17 +556,17 @@ fn a_state_without_rows_is_none_and_zero() {
     for row in &mut job.rows {
         row.state = 1;
     }
-    refuses(
+    refuses_accounts(
         &Call::of(&job),
         &[
-            ("whether ultimate has rows", |call| {
-                call.answer.account.ultimate.present = 1
+            ("whether ultimate has rows", |account| {
+                account.ultimate.present = 1
             }),
-            ("none but not zero", |call| {
-                call.answer.account.ultimate.least.row = 1
+            ("none but not zero", |account| {
+                account.ultimate.least.row = 1
             }),
-            ("none but not zero", |call| {
-                call.answer.account.ultimate.greatest.value = -1
+            ("none but not zero", |account| {
+                account.ultimate.greatest.value = -1
             }),
         ],
     );
@@ -592,16 +578,16 @@ fn a_row_without_traffic_leaves_none_out() {
     let mut job = two_lane_job();
     job.rows[2].state = 1;
     let call = Call::of(&job);
-    takes(
+    takes_accounts(
         &call,
-        &[("effect 3 counts 0 either way", |call| {
-            call.answer.account.ultimate.greatest.omitted = 0b0100
+        &[("effect 3 counts 0 either way", |account| {
+            account.ultimate.greatest.omitted = 0b0100
         })],
     );
-    refuses(
+    refuses_accounts(
         &call,
-        &[("no traffic to leave out", |call| {
-            call.answer.account.ultimate.greatest.traffic_left_out = 1
+        &[("no traffic to leave out", |account| {
+            account.ultimate.greatest.traffic_left_out = 1
         })],
     );
 }
@@ -610,38 +596,30 @@ fn a_row_without_traffic_leaves_none_out() {
 /// its lowering stand is anywhere off the line.
 #[test]
 fn equally_good_stands_are_free() {
-    takes(
+    takes_accounts(
         &Call::of(&job_a()),
         &[
-            ("5", |call| call.answer.account.raising.station = 5),
-            ("7", |call| call.answer.account.raising.station = 7),
-            ("10, right", |call| {
-                call.answer.account.raising.station = 10;
-                call.answer.account.raising.side = 1;
+            ("5", |account| account.raising.station = 5),
+            ("7", |account| account.raising.station = 7),
+            ("10, right", |account| {
+                account.raising.station = 10;
+                account.raising.side = 1;
             }),
-            ("far left", |call| {
-                call.answer.account.lowering.station = i64::MIN
-            }),
-            ("far right", |call| {
-                call.answer.account.lowering.station = i64::MAX
-            }),
-            ("at the line's right end", |call| {
-                call.answer.account.lowering.station = 20;
-                call.answer.account.lowering.side = 0;
+            ("far left", |account| account.lowering.station = i64::MIN),
+            ("far right", |account| account.lowering.station = i64::MAX),
+            ("at the line's right end", |account| {
+                account.lowering.station = 20;
+                account.lowering.side = 0;
             }),
         ],
     );
-    refuses(
+    refuses_accounts(
         &Call::of(&job_a()),
         &[
-            ("the raising stand", |call| {
-                call.answer.account.raising.station = 4
-            }),
-            ("the raising stand", |call| {
-                call.answer.account.raising.station = 11
-            }),
-            ("the lowering stand", |call| {
-                call.answer.account.lowering.station = 19
+            ("the raising stand", |account| account.raising.station = 4),
+            ("the raising stand", |account| account.raising.station = 11),
+            ("the lowering stand", |account| {
+                account.lowering.station = 19
             }),
         ],
     );
@@ -651,10 +629,10 @@ fn equally_good_stands_are_free() {
 /// A level transverse line leaves the centre free.
 #[test]
 fn equally_good_placements_are_free() {
-    takes(
+    takes_accounts(
         &Call::of(&job_a()),
-        &[("a lane that gives 0", |call| {
-            let traffic = &mut call.answer.account.normal_least;
+        &[("a lane that gives 0", |account| {
+            let traffic = &mut account.normal_least;
             traffic.set = 0b10;
             traffic.lanes[0] = Lane::default();
             traffic.lanes[1] = Lane {
@@ -665,14 +643,14 @@ fn equally_good_placements_are_free() {
         })],
     );
     // Five lanes of 400 cm, the centres from 750 to 1250 fifths on.
-    takes(
+    takes_accounts(
         &Call::of(&level_job(2000, 50, vec![1000; 41])),
         &[
-            ("another centre", |call| {
-                call.answer.account.normal_greatest.lanes[0].centre = 1001
+            ("another centre", |account| {
+                account.normal_greatest.lanes[0].centre = 1001
             }),
-            ("another HO lane and other factors", |call| {
-                let lanes = &mut call.answer.account.overload_greatest.lanes;
+            ("another HO lane and other factors", |account| {
+                let lanes = &mut account.overload_greatest.lanes;
                 let entries = [(1, 14), (1, 20), (1, 16), (3, 0), (1, 18)];
                 for (lane, (entry, factor)) in lanes.iter_mut().zip(entries) {
                     (lane.entry, lane.factor) = (entry, factor);
@@ -688,14 +666,14 @@ fn equally_good_omissions_are_free() {
     let mut job = two_lane_job();
     job.records[1].factor = 0;
     job.rows[2].live_factor = 0;
-    takes(
+    takes_accounts(
         &Call::of(&job),
         &[
-            ("effect 2 at factor 0", |call| {
-                call.answer.account.service.greatest.omitted ^= 0b0010
+            ("effect 2 at factor 0", |account| {
+                account.service.greatest.omitted ^= 0b0010
             }),
-            ("traffic at factor 0", |call| {
-                call.answer.account.ultimate.greatest.traffic_left_out ^= 1
+            ("traffic at factor 0", |account| {
+                account.ultimate.greatest.traffic_left_out ^= 1
             }),
         ],
     );

@@ -2,7 +2,7 @@
 
 use second::checker::check;
 use second::job::Job;
-use second::{solve, Answer};
+use second::{solve, Account, Answer};
 
 /// What a kernel gave for a job, with the patch buffer before and after.
 #[derive(Clone)]
@@ -39,25 +39,58 @@ impl Call {
         change(&mut changed);
         changed
     }
+
+    /// The same call with something in its account changed.
+    pub fn with_account(&self, change: impl Fn(&mut Account)) -> Call {
+        self.with(|call| change(&mut call.answer.account))
+    }
 }
 
 pub type Change = fn(&mut Call);
+pub type AccountChange = fn(&mut Account);
 
 /// The call passes, and does so with each change.
 #[track_caller]
 pub fn takes(call: &Call, changes: &[(&str, Change)]) {
+    let changed = |(what, change): &(_, Change)| (*what, call.with(change));
+    takes_all(call, changes.iter().map(changed));
+}
+
+/// The call passes, and does so with each change of its account.
+#[track_caller]
+pub fn takes_accounts(call: &Call, changes: &[(&str, AccountChange)]) {
+    let changed = |(what, change): &(_, AccountChange)| (*what, call.with_account(change));
+    takes_all(call, changes.iter().map(changed));
+}
+
+#[track_caller]
+fn takes_all<'a>(call: &Call, changed: impl Iterator<Item = (&'a str, Call)>) {
     assert_eq!(call.check(), Ok(()));
-    for (what, change) in changes {
-        assert_eq!(call.with(change).check(), Ok(()), "{what}");
+    for (what, changed) in changed {
+        assert_eq!(changed.check(), Ok(()), "{what}");
     }
 }
 
 /// The call passes, but each change is refused for a reason that has these words in it.
 #[track_caller]
 pub fn refuses(call: &Call, changes: &[(&str, Change)]) {
+    let changed = |(reason, change): &(_, Change)| (*reason, call.with(change));
+    refuses_all(call, changes.iter().map(changed));
+}
+
+/// The call passes, but each change of its account is refused for a reason that has these
+/// words in it.
+#[track_caller]
+pub fn refuses_accounts(call: &Call, changes: &[(&str, AccountChange)]) {
+    let changed = |(reason, change): &(_, AccountChange)| (*reason, call.with_account(change));
+    refuses_all(call, changes.iter().map(changed));
+}
+
+#[track_caller]
+fn refuses_all<'a>(call: &Call, changed: impl Iterator<Item = (&'a str, Call)>) {
     assert_eq!(call.check(), Ok(()));
-    for (number, (reason, change)) in changes.iter().enumerate() {
-        let fault = call.with(change).check();
+    for (number, (reason, changed)) in changed.enumerate() {
+        let fault = changed.check();
         let fault = fault.expect_err(&format!("change {number}, {reason}"));
         assert!(fault.contains(reason), "change {number}: {fault}");
     }
