@@ -1,5 +1,5 @@
 //! 02 "Effects past a word": what the yard hears back about a job of edition 2.
-//! The places are counted by hand from the `WORDS`, never taken from the
+//! The places are counted by hand from `WORDS`, never taken from the
 //! code.
 
 mod common;

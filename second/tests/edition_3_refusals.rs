@@ -1,5 +1,5 @@
 //! 02 "Two carriageways": what the yard hears back about a job of edition 3. The places
-//! are counted by hand from the `WORDS`, never taken from the code. That jobs
+//! are counted by hand from `WORDS`, never taken from the code. That jobs
 //! with one carriageway keep their limits of 5000 is here, too.
 
 mod common;

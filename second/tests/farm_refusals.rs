@@ -1,5 +1,5 @@
 //! 02 "Farm bridges": what the yard hears back about a farm job. The places are
-//! counted by hand from the `WORDS`, never taken from the code.
+//! counted by hand from `WORDS`, never taken from the code.
 
 mod common;
 
@@ -23,7 +23,7 @@ const WORDS: [i32; 42] = [
 
 const SOUND: Sound = Sound(&WORDS);
 
-/// `SOUND` with this width and barriers and as many transverse ordinates, all 0,
+/// `WORDS` with this width and barriers and as many transverse ordinates, all 0,
 /// as the width calls for.
 fn of_width(width: i32, barriers: i32) -> Vec<i32> {
     let mut words = WORDS.to_vec();

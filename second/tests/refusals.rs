@@ -1,5 +1,5 @@
 //! 01 "What the yard hears back": each refusal at many places. The places are
-//! counted by hand from the `WORDS`, never taken from the code.
+//! counted by hand from `WORDS`, never taken from the code.
 
 mod common;
 

@@ -1,5 +1,5 @@
 //! 02 "Span by sign": what the yard hears back about a job of edition 2 with kind 4.
-//! The places are counted by hand from the `WORDS`, never taken from the
+//! The places are counted by hand from `WORDS`, never taken from the
 //! code. That editions 1 and 4 have no kind 4 is in their own tests.
 
 mod common;

@@ -18,6 +18,16 @@ use crate::words::{halves, Change, WORD_BYTES};
 /// -65531 is 5 in its low sixteen bits.
 const FIVE_IN_16_BITS: i32 = -65_531;
 
+/// Ordinates past 5000, by their places in the line.
+const IN_LINE: [Change; 6] = [
+    (1, -5001),
+    (1, 5001),
+    (2, 5001),
+    (3, -5001),
+    (4, 5001),
+    (4, FIVE_IN_16_BITS),
+];
+
 /// Dynamic values next to the limits of their kind.
 const BELOW_KIND_1: &[Change] = &[(DYNAMIC_KIND, 1), (DYNAMIC_VALUE, 999)];
 const ABOVE_KIND_1: &[Change] = &[(DYNAMIC_KIND, 1), (DYNAMIC_VALUE, 1301)];
@@ -117,17 +127,7 @@ fn of_edition_2(sections: &Sections) -> Vec<Vec<Change>> {
             BELOW_KIND_1,
             ABOVE_KIND_3,
         ]),
-        at(
-            sections.line.start,
-            &[
-                (1, -5001),
-                (1, 5001),
-                (2, 5001),
-                (3, -5001),
-                (4, 5001),
-                (4, FIVE_IN_16_BITS),
-            ],
-        ),
+        at(sections.line.start, &IN_LINE),
         at(sections.transverse.start, &[(6, -1001), (6, 1001)]),
         live_factors(sections),
         at(sections.rows.start, &[(2, 3001), (3, 6)]),
@@ -183,17 +183,7 @@ fn of_edition_4(sections: &Sections) -> Vec<Vec<Change>> {
             BELOW_KIND_3,
             ABOVE_KIND_3,
         ]),
-        at(
-            sections.line.start,
-            &[
-                (1, -5001),
-                (1, 5001),
-                (2, 5001),
-                (3, -5001),
-                (4, 5001),
-                (4, FIVE_IN_16_BITS),
-            ],
-        ),
+        at(sections.line.start, &IN_LINE),
         at(
             sections.transverse.start,
             &[(0, -1001), (3, FIVE_IN_16_BITS), (6, 1001)],
