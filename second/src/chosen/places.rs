@@ -3,7 +3,9 @@
 //! kinds.
 
 use super::farm::short_farm_job;
-use super::{bare_job, changed_job, level_piece, of_job, with_words};
+use super::{
+    bare_job, changed_job, level_piece, of_job, with_short_second_carriageway, with_words,
+};
 use crate::edition::Edition;
 use crate::generator::Case;
 use crate::job::{
@@ -81,8 +83,7 @@ pub fn short_job(edition: Edition) -> Job {
     match edition {
         Edition::One => tables(edition, vec![]),
         Edition::Two => tables(edition, vec![0; 2]),
-        Edition::Three => tables(Edition::Two, vec![0; 2])
-            .with_second_carriageway(350, vec![-60, 900, 70, 640, 510, 480, -220, 990]),
+        Edition::Three => with_short_second_carriageway(tables(Edition::Two, vec![0; 2])),
         Edition::Four => Job {
             pieces,
             ..short_farm_job()
