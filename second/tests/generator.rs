@@ -3,7 +3,10 @@
 
 mod common;
 
-use common::streams::{answer_to, section_labels, shape_labels, Asked};
+use common::streams::{
+    answer_to, refusals_of_tables_due, section_labels, shape_labels, shapes_due, state_labels,
+    states_due, Asked,
+};
 use second::account::Account;
 use second::edition::Edition;
 use second::generator::{Case, Stream};
@@ -244,26 +247,7 @@ fn outcome_labels(job: &Job, account: &Account) -> Vec<String> {
             labels.push(format!("{name} from the right only"));
         }
     }
-    for (name, state) in [("service", account.service), ("ultimate", account.ultimate)] {
-        if state.present == 0 {
-            labels.push(format!("{name} none"));
-            continue;
-        }
-        for (question, governing) in [("greatest", state.greatest), ("least", state.least)] {
-            let row = job.rows[governing.row as usize - 1];
-            labels.push(format!("{name} {question} of kind {}", row.live_kind));
-            if governing.omitted != 0 {
-                labels.push(format!("{name} {question} leaves out effects"));
-            }
-            let later = &job.rows[governing.row as usize..];
-            if later.contains(&row) {
-                labels.push(format!("{name} {question} ties"));
-            }
-            if governing.row > 1 && job.rows[0].state == row.state {
-                labels.push(format!("{name} {question} past its first row"));
-            }
-        }
-    }
+    labels.extend(state_labels(job, account));
     labels
 }
 
@@ -290,26 +274,14 @@ fn expected_labels() -> BTreeSet<String> {
         "4: last transverse",
         "5: first piece",
         "5: last piece",
-        "6: effect word 0",
         "6: effect word 1",
-        "6: first effect",
-        "6: last effect",
-        "6: row word 0",
-        "6: row word 1",
-        "6: row word 2",
-        "6: row word 3",
         "6: live factor for kind 0",
         "6: first row",
         "6: last row",
-        "6: record word 0",
-        "6: record word 1",
-        "6: record word 2",
         "6: first record",
         "6: last record",
-        "7: row word 0",
         "7: first row",
         "7: last row",
-        "8: row word 0",
         "8: first row",
         "8: last row",
         "9: no patch bytes",
@@ -358,6 +330,9 @@ fn expected_labels() -> BTreeSet<String> {
     ]
     .map(String::from)
     .into();
+    expected.extend(refusals_of_tables_due());
+    expected.extend(shapes_due(1..=5, 1..=3));
+    expected.extend(states_due());
     let mut due = |label: String| {
         expected.insert(label);
     };
@@ -365,14 +340,7 @@ fn expected_labels() -> BTreeSet<String> {
         due(format!("2: word {place}"));
     }
     for h in [1, 2, 5, 10, 25, 50] {
-        due(format!("h {h}"));
         due(format!("longest line of h {h}"));
-    }
-    for n in 1..=5 {
-        due(format!("{n} lanes"));
-    }
-    for kind in 1..=3 {
-        due(format!("dynamic kind {kind}"));
     }
     for width in [300, 599, 600, 969, 970, 1339, 1340, 1709, 1710, 2079] {
         due(format!("W {width}"));
@@ -393,15 +361,6 @@ fn expected_labels() -> BTreeSet<String> {
         }
         for live in ["normal", "overload"] {
             due(format!("{live} {question} spares a lane"));
-        }
-        for state in ["service", "ultimate"] {
-            due(format!("{state} none"));
-            for kind in 0..=2 {
-                due(format!("{state} {question} of kind {kind}"));
-            }
-            due(format!("{state} {question} leaves out effects"));
-            due(format!("{state} {question} ties"));
-            due(format!("{state} {question} past its first row"));
         }
     }
     for direction in ["raising", "lowering"] {

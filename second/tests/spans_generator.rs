@@ -4,8 +4,8 @@
 mod common;
 
 use common::streams::{
-    answer_to, header_word_labels, refusal_labels, section_labels, shape_labels, Asked,
-    REFUSALS_IN_EVERY_EDITION,
+    answer_to, header_word_labels, refusal_labels, refusals_due, section_labels, shape_labels,
+    shapes_due, Asked,
 };
 use second::account::Account;
 use second::edition::Edition;
@@ -150,15 +150,17 @@ fn outcome_labels(account: &Account) -> Vec<String> {
 }
 
 fn expected_labels() -> BTreeSet<String> {
-    let mut expected = expected_refusals();
-    expected.extend(expected_orders());
-    expected.extend(expected_spans());
-    expected.extend(expected_outcomes());
-    expected.into_iter().collect()
+    let expected = [
+        expected_refusals(),
+        expected_orders(),
+        expected_spans(),
+        expected_outcomes(),
+    ];
+    expected.concat().into_iter().collect()
 }
 
 fn expected_refusals() -> Vec<String> {
-    let mut expected: Vec<String> = REFUSALS_IN_EVERY_EDITION.map(String::from).to_vec();
+    let mut expected = refusals_due();
     expected.extend((1..=11).map(|place| format!("2: word {place}")));
     for place in [6, 10] {
         expected.extend([0, 2001].map(|word| format!("2: word {place} is {word}")));
@@ -223,9 +225,7 @@ fn expected_spans() -> Vec<String> {
         expected.extend(["spans", "factors"].map(|name| format!("{name} {order}")));
     }
     expected.extend([-1, 1].map(|by| format!("spans next to each other, {by}")));
-    expected.extend([1, 2, 5, 10, 25, 50].map(|h| format!("h {h}")));
-    expected.extend((1..=5).map(|lanes| format!("{lanes} lanes")));
-    expected.push("dynamic kind 4".into());
+    expected.extend(shapes_due(1..=5, 4..=4));
     expected
 }
 

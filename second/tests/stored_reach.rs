@@ -4,7 +4,7 @@
 
 mod common;
 
-use common::streams::{answer_to, entry_place, reach_all};
+use common::streams::{answer_to, entry_place, reach_all, texts};
 use second::chosen::places;
 use second::edition::Edition;
 use second::generator::Case;
@@ -241,10 +241,6 @@ fn patch_kind(bytes: usize, due: usize) -> String {
         _ if bytes + 1 == due => "a byte short of several".into(),
         _ => "bytes short of several".into(),
     }
-}
-
-fn texts(kinds: &[&str]) -> Vec<String> {
-    kinds.iter().map(|kind| kind.to_string()).collect()
 }
 
 /// 1 without an edition: no word 0, or one that names none with words enough for any;
