@@ -148,17 +148,6 @@ fn size_labels(account: &Account) -> Vec<String> {
     labels
 }
 
-fn expected_labels() -> BTreeSet<String> {
-    let expected = [
-        expected_refusals(),
-        expected_effect_faults(),
-        expected_jobs(),
-        states_due(),
-        expected_sizes(),
-    ];
-    expected.concat().into_iter().collect()
-}
-
 fn expected_refusals() -> Vec<String> {
     let mut expected = texts(&[
         "4: piece word 0",
@@ -244,7 +233,13 @@ fn expected_sizes() -> Vec<String> {
 stream_tests!(Asked {
     stream: Stream::Two,
     labels,
-    expected_labels,
+    expected: &[
+        expected_refusals,
+        expected_effect_faults,
+        expected_jobs,
+        states_due,
+        expected_sizes,
+    ],
     seeds: 20_000,
     with_chosen: true,
     order: &[1, 2, 3, 4, 5, 6, 7, 8, 9],

@@ -263,17 +263,6 @@ fn overload_labels(job: &Job, question: Question, traffic: &Traffic) -> Vec<Stri
     labels
 }
 
-fn expected_labels() -> BTreeSet<String> {
-    let expected = [
-        expected_refusals(),
-        expected_ordinate_faults(),
-        expected_jobs(),
-        expected_traffic(),
-        states_due(),
-    ];
-    expected.concat().into_iter().collect()
-}
-
 fn expected_refusals() -> Vec<String> {
     let mut expected = texts(&[
         "3: a word fewer",
@@ -390,7 +379,13 @@ fn expected_traffic() -> Vec<String> {
 stream_tests!(Asked {
     stream: Stream::Three,
     labels,
-    expected_labels,
+    expected: &[
+        expected_refusals,
+        expected_ordinate_faults,
+        expected_jobs,
+        expected_traffic,
+        states_due,
+    ],
     seeds: 20_000,
     with_chosen: true,
     order: &[1, 2, 3, 4, 5, 6, 7, 8, 9],

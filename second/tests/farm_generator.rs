@@ -206,16 +206,6 @@ fn unless_it_holds_back(job: &Job, part: &Part, question: Question) -> i64 {
     }
 }
 
-fn expected_labels() -> BTreeSet<String> {
-    let expected = [
-        expected_refusals(),
-        expected_faults_of_effects(),
-        expected_jobs(),
-        expected_outcomes(),
-    ];
-    expected.concat().into_iter().collect()
-}
-
 fn expected_refusals() -> Vec<String> {
     let mut expected = texts(&[
         "2: before 11",
@@ -308,7 +298,12 @@ fn expected_outcomes() -> Vec<String> {
 stream_tests!(Asked {
     stream: Stream::Four,
     labels,
-    expected_labels,
+    expected: &[
+        expected_refusals,
+        expected_faults_of_effects,
+        expected_jobs,
+        expected_outcomes,
+    ],
     seeds: 20_000,
     with_chosen: true,
     order: &[1, 2, 11, 3, 4, 5, 6, 9],

@@ -149,16 +149,6 @@ fn outcome_labels(account: &Account) -> Vec<String> {
     labels
 }
 
-fn expected_labels() -> BTreeSet<String> {
-    let expected = [
-        expected_refusals(),
-        expected_orders(),
-        expected_spans(),
-        expected_outcomes(),
-    ];
-    expected.concat().into_iter().collect()
-}
-
 fn expected_refusals() -> Vec<String> {
     let mut expected = refusals_due();
     expected.extend((1..=11).map(|place| format!("2: word {place}")));
@@ -244,7 +234,12 @@ fn expected_outcomes() -> Vec<String> {
 stream_tests!(Asked {
     stream: Stream::Spans,
     labels,
-    expected_labels,
+    expected: &[
+        expected_refusals,
+        expected_orders,
+        expected_spans,
+        expected_outcomes,
+    ],
     seeds: 20_000,
     with_chosen: true,
     order: &[1, 2, 3, 4, 5, 6, 7, 8, 9],

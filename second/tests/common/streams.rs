@@ -34,7 +34,8 @@ pub struct Asked {
     pub stream: Stream,
     /// What is worth reaching about a case.
     pub labels: fn(&Case) -> Vec<String>,
-    pub expected_labels: fn() -> BTreeSet<String>,
+    /// What is expected of them, in parts.
+    pub expected: &'static [fn() -> Vec<String>],
     /// How many seeds, from 0 on, reach what is expected.
     pub seeds: u64,
     /// Whether the stored cases that reach it include the chosen ones.
@@ -65,7 +66,8 @@ impl Asked {
 
     #[track_caller]
     fn reached_by(&self, cases: impl Iterator<Item = Case>) {
-        reach_all(cases, self.labels, (self.expected_labels)());
+        let expected = self.expected.iter().flat_map(|part| part());
+        reach_all(cases, self.labels, expected.collect());
     }
 
     #[track_caller]
