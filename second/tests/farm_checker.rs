@@ -5,7 +5,7 @@ mod common;
 
 use common::call::{refuses, refuses_accounts, takes_accounts, Call};
 use common::{definition, pieces, small_farm_job};
-use second::account::Lane;
+use second::account::{Account, Governing, Lane};
 use second::farm_job::farm_job;
 use second::generator::{case, Stream};
 
@@ -28,49 +28,57 @@ fn governed_by_3a() -> Call {
     Call::of(&small_farm_job([1000, 0, 0, 0, 0, 0, 0, 0, 0, 5000, 0]))
 }
 
+/// A limit state's value of a call, for one question.
+type Of = fn(&mut Account) -> &mut Governing;
+
+/// The call with each of these k for that value is refused for a reason that has the words
+/// beside it.
+#[track_caller]
+fn refuses_k(call: &Call, of: Of, table: &[(u32, &str)]) {
+    for &(k, reason) in table {
+        let fault = call.with(|call| of(&mut call.answer.account).k = k).check();
+        let fault = fault.expect_err(reason);
+        assert!(fault.contains(reason), "k {k}: {fault}");
+    }
+}
+
+const SERVICE_GREATEST: Of = |account| &mut account.service.greatest;
+const SERVICE_LEAST: Of = |account| &mut account.service.least;
+const ULTIMATE_GREATEST: Of = |account| &mut account.ultimate.greatest;
+const ULTIMATE_LEAST: Of = |account| &mut account.ultimate.least;
+
 #[test]
 fn another_k_is_refused() {
     let call = governed_by_3a();
     let ultimate = call.answer.account.ultimate;
     assert_eq!((ultimate.greatest.row, ultimate.greatest.k), (16, 1300));
     assert_eq!((ultimate.least.row, ultimate.least.k), (16, 800));
+    let no_k = [(0, "no k of 0"), (1000, "no k of 1000"), (13, "no k of 13")];
+    refuses_k(&call, ULTIMATE_GREATEST, &no_k);
+    refuses_k(&call, ULTIMATE_GREATEST, &[(800, "what it comes to")]);
+    refuses_k(&call, ULTIMATE_LEAST, &[(1300, "what it comes to")]);
+    // The value that the other k gives is refused as well.
     refuses_accounts(
         &call,
-        &[
-            ("what it comes to", |account| {
-                account.ultimate.greatest.k = 800
-            }),
-            ("what it comes to", |account| {
-                account.ultimate.least.k = 1300
-            }),
-            ("no k of 0", |account| account.ultimate.greatest.k = 0),
-            ("no k of 1000", |account| account.ultimate.greatest.k = 1000),
-            ("no k of 13", |account| account.ultimate.greatest.k = 13),
-            // The value that the other k gives is refused as well.
-            ("ultimate Greatest is", |account| {
-                let greatest = &mut account.ultimate.greatest;
-                (greatest.value, greatest.k) = (5_800_000_000, 800);
-            }),
-        ],
+        &[("ultimate Greatest is", |account| {
+            let greatest = &mut account.ultimate.greatest;
+            (greatest.value, greatest.k) = (5_800_000_000, 800);
+        })],
     );
 }
 
 #[test]
 fn k_is_refused_where_another_row_governs() {
     let call = Call::of(&farm_job());
+    assert_eq!(call.check(), Ok(()));
     let account = call.answer.account;
     assert_eq!(account.ultimate.greatest.row, 11);
     // Service's own 3A has no k.
     assert_eq!(account.service.least.row, 6);
-    refuses_accounts(
-        &call,
-        &[
-            ("no k of 1300", |account| account.ultimate.greatest.k = 1300),
-            ("no k of 800", |account| account.ultimate.greatest.k = 800),
-            ("no k of 1300", |account| account.service.least.k = 1300),
-            ("no k of 800", |account| account.service.greatest.k = 800),
-        ],
-    );
+    let no_k = [(1300, "no k of 1300"), (800, "no k of 800")];
+    for of in [ULTIMATE_GREATEST, SERVICE_LEAST, SERVICE_GREATEST] {
+        refuses_k(&call, of, &no_k);
+    }
 }
 
 /// DL 0: 3A's greatest is 5000 with 1.3 and with 0.8. Every least is 0, so row
@@ -85,16 +93,14 @@ fn either_k_passes_where_both_give_the_value() {
             ("0.8", |account| account.ultimate.greatest.k = 800),
         ],
     );
+    refuses_k(&call, ULTIMATE_GREATEST, &[(0, "no k of 0")]);
+    refuses_k(&call, ULTIMATE_LEAST, &[(1300, "no k of 1300")]);
     refuses_accounts(
         &call,
-        &[
-            ("no k of 0", |account| account.ultimate.greatest.k = 0),
-            ("no k of 1300", |account| account.ultimate.least.k = 1300),
-            ("row is", |account| {
-                let least = &mut account.ultimate.least;
-                (least.row, least.k) = (16, 800);
-            }),
-        ],
+        &[("row is", |account| {
+            let least = &mut account.ultimate.least;
+            (least.row, least.k) = (16, 800);
+        })],
     );
 }
 

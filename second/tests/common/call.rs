@@ -39,34 +39,28 @@ impl Call {
         change(&mut changed);
         changed
     }
-
-    /// The same call with something in its account changed.
-    pub fn with_account(&self, change: impl Fn(&mut Account)) -> Call {
-        self.with(|call| change(&mut call.answer.account))
-    }
 }
 
-pub type Change = fn(&mut Call);
-pub type AccountChange = fn(&mut Account);
+/// A change of a call or of a part of it.
+pub type Change<T = Call> = fn(&mut T);
 
 /// The call passes, and does so with each change.
 #[track_caller]
 pub fn takes(call: &Call, changes: &[(&str, Change)]) {
-    let changed = |(what, change): &(_, Change)| (*what, call.with(change));
-    takes_all(call, changes.iter().map(changed));
+    takes_in(call, |call| call, changes);
 }
 
 /// The call passes, and does so with each change of its account.
 #[track_caller]
-pub fn takes_accounts(call: &Call, changes: &[(&str, AccountChange)]) {
-    let changed = |(what, change): &(_, AccountChange)| (*what, call.with_account(change));
-    takes_all(call, changes.iter().map(changed));
+pub fn takes_accounts(call: &Call, changes: &[(&str, Change<Account>)]) {
+    takes_in(call, |call| &mut call.answer.account, changes);
 }
 
 #[track_caller]
-fn takes_all<'a>(call: &Call, changed: impl Iterator<Item = (&'a str, Call)>) {
+fn takes_in<T>(call: &Call, part: fn(&mut Call) -> &mut T, changes: &[(&str, Change<T>)]) {
     assert_eq!(call.check(), Ok(()));
-    for (what, changed) in changed {
+    for (what, change) in changes {
+        let changed = call.with(|call| change(part(call)));
         assert_eq!(changed.check(), Ok(()), "{what}");
     }
 }
@@ -74,23 +68,21 @@ fn takes_all<'a>(call: &Call, changed: impl Iterator<Item = (&'a str, Call)>) {
 /// The call passes, but each change is refused for a reason that has these words in it.
 #[track_caller]
 pub fn refuses(call: &Call, changes: &[(&str, Change)]) {
-    let changed = |(reason, change): &(_, Change)| (*reason, call.with(change));
-    refuses_all(call, changes.iter().map(changed));
+    refuses_in(call, |call| call, changes);
 }
 
 /// The call passes, but each change of its account is refused for a reason that has these
 /// words in it.
 #[track_caller]
-pub fn refuses_accounts(call: &Call, changes: &[(&str, AccountChange)]) {
-    let changed = |(reason, change): &(_, AccountChange)| (*reason, call.with_account(change));
-    refuses_all(call, changes.iter().map(changed));
+pub fn refuses_accounts(call: &Call, changes: &[(&str, Change<Account>)]) {
+    refuses_in(call, |call| &mut call.answer.account, changes);
 }
 
 #[track_caller]
-fn refuses_all<'a>(call: &Call, changed: impl Iterator<Item = (&'a str, Call)>) {
+fn refuses_in<T>(call: &Call, part: fn(&mut Call) -> &mut T, changes: &[(&str, Change<T>)]) {
     assert_eq!(call.check(), Ok(()));
-    for (number, (reason, changed)) in changed.enumerate() {
-        let fault = changed.check();
+    for (number, (reason, change)) in changes.iter().enumerate() {
+        let fault = call.with(|call| change(part(call))).check();
         let fault = fault.expect_err(&format!("change {number}, {reason}"));
         assert!(fault.contains(reason), "change {number}: {fault}");
     }
