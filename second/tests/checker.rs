@@ -3,7 +3,11 @@
 
 mod common;
 
-use common::call::{refuses, refuses_accounts, takes_accounts, Call, Change};
+use common::call::{
+    refuses, refuses_accounts, refuses_part, takes_accounts, Call, Change, Part, NORMAL_GREATEST,
+    NORMAL_LEAST, OVERLOADS, OVERLOAD_GREATEST, OVERLOAD_LEAST, SERVICE_GREATEST, SERVICE_LEAST,
+    ULTIMATE_GREATEST, ULTIMATE_LEAST,
+};
 use common::{definition, level_job, pieces, two_lane_job};
 use second::account::{Lane, State, Traffic};
 use second::chosen::overload_lanes::lanes_job;
@@ -186,95 +190,95 @@ fn an_unused_stand_is_checked_too() {
     );
 }
 
+/// Two lanes; normal greatest is HN raising at 300 and HN lowering at 1140.
+fn call_of_two_lanes() -> Call {
+    let call = Call::of(&two_lane_job());
+    assert_eq!(call.check(), Ok(()));
+    assert_eq!(call.answer.account.normal_greatest.set, 0b11);
+    call
+}
+
+const SET_DISAGREES: &str = "does not agree with the lane set";
+const EFFECT_DIFFERS: &str = "placement's effect";
+
 #[test]
-fn wrong_placements_are_refused() {
-    // Two lanes; normal greatest is HN raising at 300 and HN lowering at 1140.
+fn wrong_lane_sets_are_refused() {
+    let call = call_of_two_lanes();
+    for (set, reason) in [
+        (0b01, SET_DISAGREES),
+        (0b111, SET_DISAGREES),
+        (0b11 | 1 << 5, SET_DISAGREES),
+        (0b11 | 1 << 10, "names no lane"),
+        (0b11 | 1 << 31, "names no lane"),
+    ] {
+        refuses_part(&call, NORMAL_GREATEST, reason, |traffic| traffic.set = set);
+    }
+    refuses_part(&call, NORMAL_GREATEST, "past the last lane", |traffic| {
+        traffic.set = 0b111;
+        traffic.lanes[2] = Lane {
+            entry: 1,
+            centre: 1500,
+            factor: 0,
+        };
+    });
+    // Lane 2 left out, with the value kept.
+    refuses_part(&call, NORMAL_LEAST, EFFECT_DIFFERS, |traffic| {
+        traffic.set = 1;
+        traffic.lanes[1] = Lane::default();
+    });
+}
+
+#[test]
+fn wrong_entries_are_refused() {
+    let call = call_of_two_lanes();
+    for (part, lane, entry, reason) in [
+        (NORMAL_GREATEST, 4, 1, SET_DISAGREES),
+        (NORMAL_GREATEST, 0, 5, "stands for nothing"),
+        (NORMAL_GREATEST, 1, u32::MAX, "stands for nothing"),
+        (NORMAL_GREATEST, 1, 1, EFFECT_DIFFERS),
+        (NORMAL_GREATEST, 0, 2, EFFECT_DIFFERS),
+        (NORMAL_GREATEST, 0, 3, "an HO element in normal"),
+        (OVERLOAD_GREATEST, 0, 1, "0 HO elements in overload"),
+        (OVERLOAD_LEAST, 1, 3, "2 HO elements in overload"),
+    ] {
+        refuses_part(&call, part, reason, |traffic| {
+            traffic.lanes[lane].entry = entry
+        });
+    }
+}
+
+#[test]
+fn wrong_centres_are_refused() {
+    let call = call_of_two_lanes();
+    let outside = "outside the lane's limits";
+    for (part, lane, centre, reason) in [
+        (NORMAL_GREATEST, 2, 1, "unloaded but has a centre"),
+        (NORMAL_GREATEST, 0, 299, outside),
+        (NORMAL_GREATEST, 1, 1141, outside),
+        (OVERLOAD_LEAST, 0, i64::MIN, outside),
+        (OVERLOAD_LEAST, 0, i64::MAX, outside),
+        (NORMAL_GREATEST, 0, 301, EFFECT_DIFFERS),
+        (OVERLOAD_GREATEST, 1, 1139, EFFECT_DIFFERS),
+    ] {
+        refuses_part(&call, part, reason, |traffic| {
+            traffic.lanes[lane].centre = centre
+        });
+    }
+}
+
+#[test]
+fn exchanged_placements_are_refused() {
     refuses_accounts(
-        &Call::of(&two_lane_job()),
+        &call_of_two_lanes(),
         &[
-            ("does not agree with the lane set", |account| {
-                account.normal_greatest.set = 0b01
-            }),
-            ("does not agree with the lane set", |account| {
-                account.normal_greatest.set = 0b111
-            }),
-            ("does not agree with the lane set", |account| {
-                account.normal_greatest.set |= 1 << 5
-            }),
-            ("names no lane", |account| {
-                account.normal_greatest.set |= 1 << 10
-            }),
-            ("names no lane", |account| {
-                account.normal_greatest.set |= 1 << 31
-            }),
-            ("past the last lane", |account| {
-                let traffic = &mut account.normal_greatest;
-                traffic.set = 0b111;
-                traffic.lanes[2] = Lane {
-                    entry: 1,
-                    centre: 1500,
-                    factor: 0,
-                };
-            }),
-            ("unloaded but has a centre", |account| {
-                account.normal_greatest.lanes[2].centre = 1
-            }),
-            ("does not agree with the lane set", |account| {
-                account.normal_greatest.lanes[4].entry = 1
-            }),
-            ("stands for nothing", |account| {
-                account.normal_greatest.lanes[0].entry = 5
-            }),
-            ("stands for nothing", |account| {
-                account.normal_greatest.lanes[1].entry = u32::MAX
-            }),
-            ("placement's effect", |account| {
-                account.normal_greatest.lanes[1].entry = 1
-            }),
-            ("placement's effect", |account| {
-                account.normal_greatest.lanes[0].entry = 2
-            }),
-            ("an HO element in normal", |account| {
-                account.normal_greatest.lanes[0].entry = 3
-            }),
-            ("0 HO elements in overload", |account| {
-                account.overload_greatest.lanes[0].entry = 1
-            }),
-            ("2 HO elements in overload", |account| {
-                account.overload_least.lanes[1].entry = 3
-            }),
-            ("outside the lane's limits", |account| {
-                account.normal_greatest.lanes[0].centre = 299
-            }),
-            ("outside the lane's limits", |account| {
-                account.normal_greatest.lanes[1].centre = 1141
-            }),
-            ("outside the lane's limits", |account| {
-                account.overload_least.lanes[0].centre = i64::MIN
-            }),
-            ("outside the lane's limits", |account| {
-                account.overload_least.lanes[0].centre = i64::MAX
-            }),
-            ("placement's effect", |account| {
-                account.normal_greatest.lanes[0].centre = 301
-            }),
-            ("placement's effect", |account| {
-                account.overload_greatest.lanes[1].centre = 1139
-            }),
-            // Lane 2 left out, with the value kept.
-            ("placement's effect", |account| {
-                let traffic = &mut account.normal_least;
-                traffic.set = 1;
-                traffic.lanes[1] = Lane::default();
-            }),
-            // The placements of greatest and least changed about.
-            ("placement's effect", |account| {
+            // Those of greatest and least.
+            (EFFECT_DIFFERS, |account| {
                 let (greatest, least) = (account.normal_greatest, account.normal_least);
                 account.normal_greatest.lanes = least.lanes;
                 account.normal_least.lanes = greatest.lanes;
             }),
-            // The HO lane changed about.
-            ("placement's effect", |account| {
+            // The HO lane and the other.
+            (EFFECT_DIFFERS, |account| {
                 let lanes = &mut account.overload_greatest.lanes;
                 (lanes[0].entry, lanes[1].entry) = (1, 4);
                 (lanes[0].factor, lanes[1].factor) = (20, 0);
@@ -283,26 +287,9 @@ fn wrong_placements_are_refused() {
     );
 }
 
-/// Overload's traffic of a call, greatest or least.
-type Overload = fn(&mut Call) -> &mut Traffic;
-
-const OVERLOADS: [Overload; 2] = [
-    |call| &mut call.answer.account.overload_greatest,
-    |call| &mut call.answer.account.overload_least,
-];
-
-/// The call with one of its overload's placements changed is refused for a reason that
-/// has these words in it.
-#[track_caller]
-fn refuses_placement(call: &Call, of: Overload, reason: &str, change: impl Fn(&mut Traffic)) {
-    let fault = call.with(|call| change(of(call))).check();
-    let fault = fault.expect_err(reason);
-    assert!(fault.contains(reason), "{fault}");
-}
-
 /// Jobs of two to five lanes, HO in lane 2, and one to four additional lanes that take
 /// 20, 18, 16 and 14 from the left, for both questions.
-fn calls_with_additional_lanes() -> impl Iterator<Item = (Call, Overload)> {
+fn calls_with_additional_lanes() -> impl Iterator<Item = (Call, Part<Traffic>)> {
     let ordinates = [800, 1000, 600, 400, 200];
     let lanes = 2..=5;
     lanes.flat_map(move |lanes| {
@@ -334,12 +321,12 @@ fn wrong_factors_are_refused() {
 
 /// A factor that is not its lane's own is refused.
 #[track_caller]
-fn refuses_another_factor(call: &Call, of: Overload, lane: usize) {
+fn refuses_another_factor(call: &Call, of: Part<Traffic>, lane: usize) {
     let right = call.answer.account.overload_greatest.lanes[lane].factor;
     let tried = [0, 10, 11, 12, 14, 16, 18, 20, 21].into_iter();
     let tried = tried.chain([-right, i64::MIN, i64::MAX]);
     for factor in tried.filter(|&factor| factor != right) {
-        refuses_placement(call, of, "additional lanes have factor", |traffic| {
+        refuses_part(call, of, "additional lanes have factor", |traffic| {
             traffic.lanes[lane].factor = factor
         });
     }
@@ -348,14 +335,14 @@ fn refuses_another_factor(call: &Call, of: Overload, lane: usize) {
 /// The factors with HO as the first additional lane are refused, and so is the r of
 /// their number for them all, which is right for one lane alone.
 #[track_caller]
-fn refuses_factors_of_other_readings(call: &Call, of: Overload) {
+fn refuses_factors_of_other_readings(call: &Call, of: Part<Traffic>) {
     let additional = additional_lanes(call);
     let mut readings = vec![[18, 16, 14, 12]];
     if additional.len() > 1 {
         readings.push([[20, 18, 16, 14][additional.len() - 1]; 4]);
     }
     for factors in readings {
-        refuses_placement(call, of, "additional lanes have factor", |traffic| {
+        refuses_part(call, of, "additional lanes have factor", |traffic| {
             for (&lane, factor) in additional.iter().zip(factors) {
                 traffic.lanes[lane].factor = factor;
             }
@@ -368,18 +355,18 @@ fn a_factor_on_another_lane_is_refused() {
     for (call, of) in calls_with_additional_lanes() {
         let additional = additional_lanes(&call);
         for factor in [20, 14, 1, -20] {
-            refuses_placement(&call, of, "lane 2: has a factor but is", |traffic| {
+            refuses_part(&call, of, "lane 2: has a factor but is", |traffic| {
                 traffic.lanes[1].factor = factor
             });
             for past_the_last in additional.len() + 1..5 {
-                refuses_placement(&call, of, "unloaded but has a factor", |traffic| {
+                refuses_part(&call, of, "unloaded but has a factor", |traffic| {
                     traffic.lanes[past_the_last].factor = factor
                 });
             }
         }
         // The HO lane has one's factor in its place.
         for &lane in &additional {
-            refuses_placement(&call, of, "has a factor but is", |traffic| {
+            refuses_part(&call, of, "has a factor but is", |traffic| {
                 let lanes = &mut traffic.lanes;
                 (lanes[1].factor, lanes[lane].factor) = (lanes[lane].factor, 0);
             });
@@ -406,13 +393,13 @@ fn factors_that_do_not_give_the_value_are_refused() {
         let additional = additional_lanes(&call);
         for (number, &lane) in additional.iter().enumerate() {
             for &other in &additional[..number] {
-                refuses_placement(&call, of, "placement's effect", |traffic| {
+                refuses_part(&call, of, "placement's effect", |traffic| {
                     let factor = traffic.lanes[lane].factor;
                     traffic.lanes[lane].factor = traffic.lanes[other].factor;
                     traffic.lanes[other].factor = factor;
                 });
             }
-            refuses_placement(&call, of, "placement's effect", |traffic| {
+            refuses_part(&call, of, "placement's effect", |traffic| {
                 let (ho, hn) = (traffic.lanes[1], traffic.lanes[lane]);
                 (traffic.lanes[1].entry, traffic.lanes[1].factor) = (hn.entry, hn.factor);
                 (traffic.lanes[lane].entry, traffic.lanes[lane].factor) = (ho.entry, 0);
@@ -423,13 +410,13 @@ fn factors_that_do_not_give_the_value_are_refused() {
             } else {
                 "additional lanes have factor"
             };
-            refuses_placement(&call, of, reason, |traffic| {
+            refuses_part(&call, of, reason, |traffic| {
                 traffic.set &= !(1 << lane);
                 traffic.lanes[lane] = Lane::default();
             });
         }
-        refuses_placement(&call, of, "Overload", |traffic| traffic.value += 1);
-        refuses_placement(&call, of, "Overload", |traffic| traffic.value -= 1);
+        refuses_part(&call, of, "Overload", |traffic| traffic.value += 1);
+        refuses_part(&call, of, "Overload", |traffic| traffic.value -= 1);
     }
 }
 
@@ -450,7 +437,7 @@ fn equally_good_factors_are_free() {
 
 /// The call with one of its overload's placements changed is taken.
 #[track_caller]
-fn takes_placement(call: &Call, of: Overload, change: impl Fn(&mut Traffic)) {
+fn takes_placement(call: &Call, of: Part<Traffic>, change: impl Fn(&mut Traffic)) {
     assert_eq!(call.with(|call| change(of(call))).check(), Ok(()));
 }
 
@@ -466,7 +453,7 @@ fn load(traffic: &mut Traffic, lane: usize, factor: i64) {
 
 /// One may have the next factor; both may have the next two, in either order.
 #[track_caller]
-fn takes_lanes_that_give_0(call: &Call, of: Overload) {
+fn takes_lanes_that_give_0(call: &Call, of: Part<Traffic>) {
     takes_placement(call, of, |traffic| load(traffic, 0, 16));
     for (first, last) in [(16, 14), (14, 16)] {
         takes_placement(call, of, |traffic| {
@@ -479,27 +466,28 @@ fn takes_lanes_that_give_0(call: &Call, of: Overload) {
 /// Lane 1 gives 0. Without lane 5 it may have 16 alone, no unlawful factor nor another
 /// lane's; unloaded it has none.
 #[track_caller]
-fn refuses_wrong_factors_of_lane_1(call: &Call, of: Overload) {
+fn refuses_wrong_factors_of_lane_1(call: &Call, of: Part<Traffic>) {
     for factor in [0, 14, 20] {
-        refuses_placement(call, of, "additional lanes have factor", |traffic| {
+        refuses_part(call, of, "additional lanes have factor", |traffic| {
             load(traffic, 0, factor)
         });
     }
-    refuses_placement(call, of, "placement's effect", |traffic| {
+    refuses_part(call, of, "placement's effect", |traffic| {
         load(traffic, 0, 18);
         traffic.lanes[3].factor = 16;
     });
-    refuses_placement(call, of, "unloaded but has a factor", |traffic| {
+    refuses_part(call, of, "unloaded but has a factor", |traffic| {
         traffic.lanes[0].factor = 16
     });
 }
 
+/// Service: rows 1 and 2 tie; greatest leaves out effect 2 of effects 1, 2. Ultimate: row
+/// 3; greatest leaves out effect 2, least effect 4.
 #[test]
 fn wrong_states_are_refused() {
-    // Service: rows 1 and 2 tie; greatest leaves out effect 2 of effects 1, 2.
-    // Ultimate: row 3; greatest leaves out effect 2, least effect 4.
+    let call = Call::of(&two_lane_job());
     refuses_accounts(
-        &Call::of(&two_lane_job()),
+        &call,
         &[
             ("whether service has rows", |account| {
                 account.service = State::default()
@@ -507,47 +495,38 @@ fn wrong_states_are_refused() {
             ("whether ultimate has rows", |account| {
                 account.ultimate.present = 2
             }),
-            ("service Greatest's row is 2, 1 is due", |account| {
-                account.service.greatest.row = 2
-            }),
-            ("service Least's row is 2", |account| {
-                account.service.least.row = 2
-            }),
-            ("ultimate Least's row is 0", |account| {
-                account.ultimate.least.row = 0
-            }),
-            ("ultimate Greatest's row is 33", |account| {
-                account.ultimate.greatest.row = 33
-            }),
-            ("effect 1 may not be left out", |account| {
-                account.service.greatest.omitted |= 0b0001
-            }),
-            ("not on its chain", |account| {
-                account.service.greatest.omitted |= 0b1000
-            }),
-            ("not on its chain", |account| {
-                account.ultimate.greatest.omitted |= 0b0100
-            }),
-            ("not on its chain", |account| {
-                account.ultimate.greatest.omitted |= 1 << 31
-            }),
-            ("what it comes to", |account| {
-                account.service.greatest.omitted = 0
-            }),
-            ("what it comes to", |account| {
-                account.service.least.omitted = 0b0010
-            }),
-            ("what it comes to", |account| {
-                account.ultimate.least.omitted = 0b0010
-            }),
-            ("what it comes to", |account| {
-                account.ultimate.greatest.traffic_left_out = 1
-            }),
-            ("traffic left out is 2", |account| {
-                account.ultimate.greatest.traffic_left_out = 2
-            }),
         ],
     );
+    for (part, row, reason) in [
+        (SERVICE_GREATEST, 2, "service Greatest's row is 2, 1 is due"),
+        (SERVICE_LEAST, 2, "service Least's row is 2"),
+        (ULTIMATE_LEAST, 0, "ultimate Least's row is 0"),
+        (ULTIMATE_GREATEST, 33, "ultimate Greatest's row is 33"),
+    ] {
+        refuses_part(&call, part, reason, |governing| governing.row = row);
+    }
+    for (left_out, reason) in [(1, "what it comes to"), (2, "traffic left out is 2")] {
+        refuses_part(&call, ULTIMATE_GREATEST, reason, |governing| {
+            governing.traffic_left_out = left_out
+        });
+    }
+}
+
+/// The same job.
+#[test]
+fn wrong_omissions_are_refused() {
+    let call = Call::of(&two_lane_job());
+    for (part, omitted, reason) in [
+        (SERVICE_GREATEST, 0b0011, "effect 1 may not be left out"),
+        (SERVICE_GREATEST, 0b1010, "not on its chain"),
+        (ULTIMATE_GREATEST, 0b0110, "not on its chain"),
+        (ULTIMATE_GREATEST, 1 << 31 | 0b0010, "not on its chain"),
+        (SERVICE_GREATEST, 0, "what it comes to"),
+        (SERVICE_LEAST, 0b0010, "what it comes to"),
+        (ULTIMATE_LEAST, 0b0010, "what it comes to"),
+    ] {
+        refuses_part(&call, part, reason, |governing| governing.omitted = omitted);
+    }
 }
 
 #[test]

@@ -3,9 +3,12 @@
 
 mod common;
 
-use common::call::{refuses, refuses_accounts, takes_accounts, Call};
+use common::call::{
+    refuses, refuses_accounts, refuses_part, takes_accounts, Call, Part, SERVICE_GREATEST,
+    SERVICE_LEAST, ULTIMATE_GREATEST, ULTIMATE_LEAST,
+};
 use common::{definition, pieces, small_farm_job};
-use second::account::{Account, Governing, Lane};
+use second::account::{Governing, Lane};
 use second::farm_job::farm_job;
 use second::generator::{case, Stream};
 
@@ -28,24 +31,13 @@ fn governed_by_3a() -> Call {
     Call::of(&small_farm_job([1000, 0, 0, 0, 0, 0, 0, 0, 0, 5000, 0]))
 }
 
-/// A limit state's value of a call, for one question.
-type Of = fn(&mut Account) -> &mut Governing;
-
-/// The call with each of these k for that value is refused for a reason that has the words
-/// beside it.
+/// The call with each of these k is refused for a reason that has the words beside it.
 #[track_caller]
-fn refuses_k(call: &Call, of: Of, table: &[(u32, &str)]) {
+fn refuses_k(call: &Call, part: Part<Governing>, table: &[(u32, &str)]) {
     for &(k, reason) in table {
-        let fault = call.with(|call| of(&mut call.answer.account).k = k).check();
-        let fault = fault.expect_err(reason);
-        assert!(fault.contains(reason), "k {k}: {fault}");
+        refuses_part(call, part, reason, |governing| governing.k = k);
     }
 }
-
-const SERVICE_GREATEST: Of = |account| &mut account.service.greatest;
-const SERVICE_LEAST: Of = |account| &mut account.service.least;
-const ULTIMATE_GREATEST: Of = |account| &mut account.ultimate.greatest;
-const ULTIMATE_LEAST: Of = |account| &mut account.ultimate.least;
 
 #[test]
 fn another_k_is_refused() {
@@ -76,8 +68,8 @@ fn k_is_refused_where_another_row_governs() {
     // Service's own 3A has no k.
     assert_eq!(account.service.least.row, 6);
     let no_k = [(1300, "no k of 1300"), (800, "no k of 800")];
-    for of in [ULTIMATE_GREATEST, SERVICE_LEAST, SERVICE_GREATEST] {
-        refuses_k(&call, of, &no_k);
+    for part in [ULTIMATE_GREATEST, SERVICE_LEAST, SERVICE_GREATEST] {
+        refuses_k(&call, part, &no_k);
     }
 }
 

@@ -1,5 +1,6 @@
 //! A kernel's call, to be tampered with and judged by the checker.
 
+use second::account::{Governing, Traffic};
 use second::checker::check;
 use second::job::Job;
 use second::{solve, Account, Answer};
@@ -44,6 +45,20 @@ impl Call {
 /// A change of a call or of a part of it.
 pub type Change<T = Call> = fn(&mut T);
 
+/// A part of a call.
+pub type Part<T> = fn(&mut Call) -> &mut T;
+
+pub const NORMAL_GREATEST: Part<Traffic> = |call| &mut call.answer.account.normal_greatest;
+pub const NORMAL_LEAST: Part<Traffic> = |call| &mut call.answer.account.normal_least;
+pub const OVERLOAD_GREATEST: Part<Traffic> = |call| &mut call.answer.account.overload_greatest;
+pub const OVERLOAD_LEAST: Part<Traffic> = |call| &mut call.answer.account.overload_least;
+pub const OVERLOADS: [Part<Traffic>; 2] = [OVERLOAD_GREATEST, OVERLOAD_LEAST];
+
+pub const SERVICE_GREATEST: Part<Governing> = |call| &mut call.answer.account.service.greatest;
+pub const SERVICE_LEAST: Part<Governing> = |call| &mut call.answer.account.service.least;
+pub const ULTIMATE_GREATEST: Part<Governing> = |call| &mut call.answer.account.ultimate.greatest;
+pub const ULTIMATE_LEAST: Part<Governing> = |call| &mut call.answer.account.ultimate.least;
+
 /// The call passes, and does so with each change.
 #[track_caller]
 pub fn takes(call: &Call, changes: &[(&str, Change)]) {
@@ -57,7 +72,7 @@ pub fn takes_accounts(call: &Call, changes: &[(&str, Change<Account>)]) {
 }
 
 #[track_caller]
-fn takes_in<T>(call: &Call, part: fn(&mut Call) -> &mut T, changes: &[(&str, Change<T>)]) {
+fn takes_in<T>(call: &Call, part: Part<T>, changes: &[(&str, Change<T>)]) {
     assert_eq!(call.check(), Ok(()));
     for (what, change) in changes {
         let changed = call.with(|call| change(part(call)));
@@ -79,11 +94,17 @@ pub fn refuses_accounts(call: &Call, changes: &[(&str, Change<Account>)]) {
 }
 
 #[track_caller]
-fn refuses_in<T>(call: &Call, part: fn(&mut Call) -> &mut T, changes: &[(&str, Change<T>)]) {
+fn refuses_in<T>(call: &Call, part: Part<T>, changes: &[(&str, Change<T>)]) {
     assert_eq!(call.check(), Ok(()));
-    for (number, (reason, change)) in changes.iter().enumerate() {
-        let fault = call.with(|call| change(part(call))).check();
-        let fault = fault.expect_err(&format!("change {number}, {reason}"));
-        assert!(fault.contains(reason), "change {number}: {fault}");
+    for (reason, change) in changes {
+        refuses_part(call, part, reason, change);
     }
+}
+
+/// The call with a part of it changed is refused for a reason that has these words in it.
+#[track_caller]
+pub fn refuses_part<T>(call: &Call, part: Part<T>, reason: &str, change: impl Fn(&mut T)) {
+    let fault = call.with(|call| change(part(call))).check();
+    let fault = fault.expect_err(reason);
+    assert!(fault.contains(reason), "not for {reason}, but {fault}");
 }
