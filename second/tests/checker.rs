@@ -4,9 +4,9 @@
 mod common;
 
 use common::call::{
-    refuses, refuses_accounts, refuses_part, takes_accounts, Call, Change, Part, NORMAL_GREATEST,
-    NORMAL_LEAST, OVERLOADS, OVERLOAD_GREATEST, OVERLOAD_LEAST, SERVICE_GREATEST, SERVICE_LEAST,
-    ULTIMATE_GREATEST, ULTIMATE_LEAST,
+    refuses, refuses_accounts, refuses_centres, refuses_part, takes_accounts, Call, Change, Part,
+    NORMAL_GREATEST, NORMAL_LEAST, OVERLOADS, OVERLOAD_GREATEST, OVERLOAD_LEAST, SERVICE_GREATEST,
+    SERVICE_LEAST, ULTIMATE_GREATEST, ULTIMATE_LEAST,
 };
 use common::{definition, level_job, pieces, two_lane_job};
 use second::account::{Lane, State, Traffic};
@@ -249,9 +249,8 @@ fn wrong_entries_are_refused() {
 
 #[test]
 fn wrong_centres_are_refused() {
-    let call = call_of_two_lanes();
     let outside = "outside the lane's limits";
-    for (part, lane, centre, reason) in [
+    let table = [
         (NORMAL_GREATEST, 2, 1, "unloaded but has a centre"),
         (NORMAL_GREATEST, 0, 299, outside),
         (NORMAL_GREATEST, 1, 1141, outside),
@@ -259,11 +258,8 @@ fn wrong_centres_are_refused() {
         (OVERLOAD_LEAST, 0, i64::MAX, outside),
         (NORMAL_GREATEST, 0, 301, EFFECT_DIFFERS),
         (OVERLOAD_GREATEST, 1, 1139, EFFECT_DIFFERS),
-    ] {
-        refuses_part(&call, part, reason, |traffic| {
-            traffic.lanes[lane].centre = centre
-        });
-    }
+    ];
+    refuses_centres(&call_of_two_lanes(), &table);
 }
 
 #[test]

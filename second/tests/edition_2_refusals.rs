@@ -41,9 +41,8 @@ fn the_sound_job_is_accepted() {
 }
 
 #[test]
-fn refusal_1_below_twelve_words() {
-    SOUND.no_job_of_lengths(0..48);
-    refused(&bytes_of(&WORDS)[..48], 1, (3, 41), "the header alone");
+fn refusal_1_for_uneven_bytes_and_below_twelve_words() {
+    SOUND.has_a_header_of(12);
 }
 
 /// Ten and eleven words are headers of editions 1 and 4, not of this one.
@@ -62,12 +61,8 @@ fn refusal_1_for_headers_of_other_lengths() {
 }
 
 #[test]
-fn refusal_1_for_uneven_bytes_and_other_editions() {
-    SOUND.no_job_of_lengths([49, 50, 51, 161, 162, 163, 165, 166, 167]);
-    for edition in [0, 5, 6, -2, 258, 0x0200_0000, i32::MIN, i32::MAX] {
-        SOUND.refused_with(&[(0, edition)], (1, 0));
-        SOUND.refused_with(&[(0, edition), (10, 1), (23, 0)], (1, 0));
-    }
+fn refusal_1_for_other_editions() {
+    SOUND.no_job_of_other_editions(&[(10, 1), (23, 0)]);
 }
 
 /// As edition 1 the job has four words too many; as edition 3 its first ordinate, 8, is

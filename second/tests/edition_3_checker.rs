@@ -3,7 +3,10 @@
 
 mod common;
 
-use common::call::{refuses_accounts, takes_accounts, Call};
+use common::call::{
+    refuses_accounts, refuses_centres, takes_accounts, Call, NORMAL_GREATEST, NORMAL_LEAST,
+    OVERLOAD_GREATEST,
+};
 use second::account::Lane;
 use second::chosen::edition_3::{lanes_job, level_job, sloped_job};
 use second::motorway_job::motorway_job;
@@ -11,7 +14,7 @@ use second::motorway_job::motorway_job;
 /// Three lanes and two: normal greatest is on lanes 2, 3 and 4, at 1750/3, 2850/3 and
 /// 300/2 cm; overload greatest on all, with factors 16, 20, none, 18 and 14.
 #[test]
-fn wrong_placements_are_refused() {
+fn wrong_lanes_are_refused() {
     refuses_accounts(
         &Call::of(&motorway_job()),
         &[
@@ -30,34 +33,6 @@ fn wrong_placements_are_refused() {
                 traffic.set = 0b11001;
                 traffic.lanes[..5].rotate_left(3);
             }),
-            // In the first's n-ths, 450/3 cm: as halves within the limits, but not the
-            // best.
-            ("placement's effect", |account| {
-                account.overload_greatest.lanes[3].centre = 450
-            }),
-            ("lane 4: its centre is outside", |account| {
-                account.overload_greatest.lanes[3].centre = 461
-            }),
-            // From the first's left kerb, and from its right one.
-            ("lane 4: its centre is outside", |account| {
-                account.normal_greatest.lanes[3].centre += 2 * 1100
-            }),
-            ("lane 5: its centre is outside", |account| {
-                account.normal_least.lanes[4].centre += 2 * 400
-            }),
-            // In halves on the first side.
-            ("lane 2: its centre is outside", |account| {
-                account.normal_greatest.lanes[1].centre = 1750 * 2 / 3
-            }),
-            ("lane 3: its centre is outside", |account| {
-                account.normal_greatest.lanes[2].centre += 1
-            }),
-            ("lane 4: its centre is outside", |account| {
-                account.normal_greatest.lanes[3].centre -= 1
-            }),
-            ("unloaded but has a centre", |account| {
-                account.normal_greatest.lanes[9].centre = 1
-            }),
             ("unloaded but has a factor", |account| {
                 account.overload_greatest.lanes[5].factor = 11
             }),
@@ -71,6 +46,45 @@ fn wrong_placements_are_refused() {
             }),
         ],
     );
+}
+
+/// The same job; normal least has lane 5 at 1220/2 cm.
+#[test]
+fn wrong_centres_are_refused() {
+    let table = [
+        // In the first's n-ths, 450/3 cm: as halves within the limits, but not the best.
+        (OVERLOAD_GREATEST, 3, 450, "placement's effect"),
+        (OVERLOAD_GREATEST, 3, 461, "lane 4: its centre is outside"),
+        // From the first's left kerb, and from its right one.
+        (
+            NORMAL_GREATEST,
+            3,
+            300 + 2 * 1100,
+            "lane 4: its centre is outside",
+        ),
+        (
+            NORMAL_LEAST,
+            4,
+            1220 + 2 * 400,
+            "lane 5: its centre is outside",
+        ),
+        // In halves on the first side.
+        (
+            NORMAL_GREATEST,
+            1,
+            1750 * 2 / 3,
+            "lane 2: its centre is outside",
+        ),
+        (
+            NORMAL_GREATEST,
+            2,
+            2850 + 1,
+            "lane 3: its centre is outside",
+        ),
+        (NORMAL_GREATEST, 3, 300 - 1, "lane 4: its centre is outside"),
+        (NORMAL_GREATEST, 9, 1, "unloaded but has a centre"),
+    ];
+    refuses_centres(&Call::of(&motorway_job()), &table);
 }
 
 #[test]
@@ -112,6 +126,12 @@ fn lane_counts_of_a_refused_job() {
     );
 }
 
+/// Each of two lanes gets the other's entry and factor.
+fn exchange_roles(lanes: &mut [Lane; 10], one: usize, other: usize) {
+    lanes.swap(one, other);
+    (lanes[one].centre, lanes[other].centre) = (lanes[other].centre, lanes[one].centre);
+}
+
 /// Ten lanes of one ordinate: HO and the factors may be in any of them.
 #[test]
 fn every_lane_of_ten_may_have_any_role() {
@@ -120,10 +140,7 @@ fn every_lane_of_ten_may_have_any_role() {
         &call,
         &[
             ("HO across the median", |account| {
-                let lanes = &mut account.overload_greatest.lanes;
-                let (first, seventh) = (lanes[0], lanes[6]);
-                (lanes[0].entry, lanes[0].factor) = (seventh.entry, seventh.factor);
-                (lanes[6].entry, lanes[6].factor) = (first.entry, first.factor);
+                exchange_roles(&mut account.overload_greatest.lanes, 0, 6)
             }),
             ("20 and 11 exchanged", |account| {
                 let lanes = &mut account.overload_greatest.lanes;
@@ -186,10 +203,7 @@ fn ties_across_the_median_are_free() {
         &call,
         &[
             ("HO on the second side", |account| {
-                let lanes = &mut account.overload_greatest.lanes;
-                let (second, third) = (lanes[1], lanes[2]);
-                (lanes[1].entry, lanes[1].factor) = (third.entry, third.factor);
-                (lanes[2].entry, lanes[2].factor) = (second.entry, second.factor);
+                exchange_roles(&mut account.overload_greatest.lanes, 1, 2)
             }),
             ("a lane of nothing as the second additional", |account| {
                 let traffic = &mut account.overload_greatest;
@@ -220,21 +234,11 @@ fn ties_across_the_median_are_free() {
 /// Two lanes of 350.5 cm and one of 437: lane 2 at 1001/2 cm, lane 3 at 222.
 #[test]
 fn centres_of_sides_of_differing_n() {
-    refuses_accounts(
-        &Call::of(&sloped_job(701, 437)),
-        &[
-            ("lane 2: its centre is outside", |account| {
-                account.normal_greatest.lanes[1].centre = 1000
-            }),
-            ("lane 3: its centre is outside", |account| {
-                account.normal_greatest.lanes[2].centre = 444
-            }),
-            ("placement's effect", |account| {
-                account.normal_greatest.lanes[2].centre = 223
-            }),
-            ("placement's effect", |account| {
-                account.normal_greatest.lanes[0].centre = 301
-            }),
-        ],
-    );
+    let table = [
+        (NORMAL_GREATEST, 1, 1000, "lane 2: its centre is outside"),
+        (NORMAL_GREATEST, 2, 444, "lane 3: its centre is outside"),
+        (NORMAL_GREATEST, 2, 223, "placement's effect"),
+        (NORMAL_GREATEST, 0, 301, "placement's effect"),
+    ];
+    refuses_centres(&Call::of(&sloped_job(701, 437)), &table);
 }

@@ -35,9 +35,8 @@ fn the_sound_job_is_accepted() {
 }
 
 #[test]
-fn refusal_1_below_thirteen_words() {
-    SOUND.no_job_of_lengths(0..52);
-    refused(&bytes_of(&WORDS)[..52], 2, (3, 49), "the header alone");
+fn refusal_1_for_uneven_bytes_and_below_thirteen_words() {
+    SOUND.has_a_header_of(13);
 }
 
 /// Ten, eleven and twelve words are headers of other editions, not of this one; a fault
@@ -56,12 +55,8 @@ fn refusal_1_for_headers_of_other_lengths() {
 }
 
 #[test]
-fn refusal_1_for_uneven_bytes_and_other_editions() {
-    SOUND.no_job_of_lengths([53, 54, 55, 193, 194, 195, 197, 198, 199]);
-    for edition in [0, 5, 6, -3, 259, 0x0300_0000, i32::MIN, i32::MAX] {
-        SOUND.refused_with(&[(0, edition)], (1, 0));
-        SOUND.refused_with(&[(0, edition), (12, 299), (34, 0)], (1, 0));
-    }
+fn refusal_1_for_other_editions() {
+    SOUND.no_job_of_other_editions(&[(12, 299), (34, 0)]);
 }
 
 /// As edition 1 it has 49 words where 10 + 4 + 7 + 2 + 8 + 6 are due, as edition 2

@@ -39,9 +39,8 @@ fn the_sound_job_is_accepted() {
 }
 
 #[test]
-fn refusal_1_below_eleven_words() {
-    SOUND.no_job_of_lengths(0..44);
-    refused(&bytes_of(&WORDS)[..44], 1, (3, 42), "the header alone");
+fn refusal_1_for_uneven_bytes_and_below_eleven_words() {
+    SOUND.has_a_header_of(11);
 }
 
 /// Ten words are enough for edition 1, here with no effects and no records.
@@ -54,12 +53,8 @@ fn ten_words_are_due_for_edition_1() {
 }
 
 #[test]
-fn refusal_1_for_uneven_bytes_and_other_editions() {
-    SOUND.no_job_of_lengths([45, 46, 47, 165, 166, 167, 169, 170, 171]);
-    for edition in [0, 5, 6, -4, 260, 0x0400_0000, i32::MIN, i32::MAX] {
-        SOUND.refused_with(&[(0, edition)], (1, 0));
-        SOUND.refused_with(&[(0, edition), (10, 0), (4, 431)], (1, 0));
-    }
+fn refusal_1_for_other_editions() {
+    SOUND.no_job_of_other_editions(&[(10, 0), (4, 431)]);
 }
 
 /// The same words as edition 1, 2 or 3 have no rows, which is at fault at 8.

@@ -34,20 +34,15 @@ fn the_sound_job_is_accepted() {
 }
 
 #[test]
-fn refusal_1_for_every_byte_count_below_ten_words() {
-    SOUND.no_job_of_lengths(0..40);
+fn refusal_1_for_uneven_bytes_and_below_ten_words() {
+    SOUND.has_a_header_of(10);
 }
 
 #[test]
-fn refusal_1_for_byte_counts_not_divisible_by_4() {
-    SOUND.no_job_of_lengths([41, 42, 43, 165, 166, 167, 169, 170, 171]);
-}
-
-#[test]
-fn refusal_1_for_another_edition() {
+fn refusal_1_for_other_editions() {
+    SOUND.no_job_of_other_editions(&[(1, 3), (9, -1)]);
+    // Ten words and no more, with faults of refusal 2 as well.
     for edition in [0, 5, -1, 257, 0x0100_0000, i32::MIN, i32::MAX] {
-        SOUND.refused_with(&[(0, edition)], (1, 0));
-        // Ten words and no more, with faults of refusal 2 as well.
         let header = &bytes_of(&changed(&WORDS, &[(0, edition), (1, 3), (9, -1)]))[..40];
         refused(header, 2, (1, 0), "header only");
     }

@@ -170,7 +170,7 @@ fn word_0_chooses_the_kinds() {
 /// The kind does not move the sections: 12 + 4 + 7 + 3E + 4R + 3C words are due.
 #[test]
 fn later_refusals_stay_in_their_places() {
-    SOUND.no_job_of_lengths(0..48);
+    SOUND.has_a_header_of(12);
     SOUND.refused_with_a_word_more_or_fewer(40);
     SOUND.refused_with(&[(7, 2)], (3, 43));
     let table = [

@@ -108,3 +108,15 @@ pub fn refuses_part<T>(call: &Call, part: Part<T>, reason: &str, change: impl Fn
     let fault = fault.expect_err(reason);
     assert!(fault.contains(reason), "not for {reason}, but {fault}");
 }
+
+/// The call with each of these centres in a lane is refused for a reason that has the
+/// words beside it.
+#[track_caller]
+pub fn refuses_centres(call: &Call, table: &[(Part<Traffic>, usize, i64, &str)]) {
+    assert_eq!(call.check(), Ok(()));
+    for &(part, lane, centre, reason) in table {
+        refuses_part(call, part, reason, |traffic| {
+            traffic.lanes[lane].centre = centre
+        });
+    }
+}

@@ -2,7 +2,7 @@
 //! every edition. A sound job has a patch buffer of a byte a piece.
 
 use second::sections::PIECES;
-use second::words::{bytes_of, changed, Change};
+use second::words::{bytes_of, changed, Change, WORD_BYTES};
 use second::{solve, Account};
 
 /// Holds a job's refusal and place against the ones expected, and that the
@@ -68,6 +68,31 @@ impl Sound<'_> {
             job.resize(length, 0);
             let what = format!("{length} bytes");
             refused(&job, patch_bytes(self.0), (1, 0), &what);
+        }
+    }
+
+    /// Fewer bytes than a header of so many words are no job, and neither are uneven ones;
+    /// the header alone lacks the other words.
+    #[track_caller]
+    pub fn has_a_header_of(&self, words: usize) {
+        let [header, whole] = [words, self.0.len()].map(|words| words * WORD_BYTES);
+        self.no_job_of_lengths(0..header);
+        for even in [header, whole - WORD_BYTES, whole] {
+            self.no_job_of_lengths(even + 1..even + WORD_BYTES);
+        }
+        let due = (3, self.0.len() as u64);
+        let alone = &bytes_of(self.0)[..header];
+        refused(alone, patch_bytes(self.0), due, "the header alone");
+    }
+
+    /// Words 0 that name no edition give 1, alone and beside these changes; some have the
+    /// job's own in one of their bytes.
+    #[track_caller]
+    pub fn no_job_of_other_editions(&self, beside: &[Change]) {
+        let own = self.0[0];
+        for edition in [0, 5, 6, -own, 256 + own, own << 24, i32::MIN, i32::MAX] {
+            self.refused_with(&[(0, edition)], (1, 0));
+            self.refused_with(&[&[(0, edition)], beside].concat(), (1, 0));
         }
     }
 
