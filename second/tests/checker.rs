@@ -4,9 +4,9 @@
 mod common;
 
 use common::call::{
-    refuses, refuses_accounts, refuses_centres, refuses_part, takes_accounts, Call, Change, Part,
-    NORMAL_GREATEST, NORMAL_LEAST, OVERLOADS, OVERLOAD_GREATEST, OVERLOAD_LEAST, SERVICE_GREATEST,
-    SERVICE_LEAST, ULTIMATE_GREATEST, ULTIMATE_LEAST,
+    load, refuses, refuses_accounts, refuses_centres, refuses_part, takes_accounts, Call, Change,
+    Part, NORMAL_GREATEST, NORMAL_LEAST, OVERLOADS, OVERLOAD_GREATEST, OVERLOAD_LEAST,
+    SERVICE_GREATEST, SERVICE_LEAST, ULTIMATE_GREATEST, ULTIMATE_LEAST,
 };
 use common::{definition, level_job, pieces, two_lane_job};
 use second::account::{Lane, State, Traffic};
@@ -214,12 +214,7 @@ fn wrong_lane_sets_are_refused() {
         refuses_part(&call, NORMAL_GREATEST, reason, |traffic| traffic.set = set);
     }
     refuses_part(&call, NORMAL_GREATEST, "past the last lane", |traffic| {
-        traffic.set = 0b111;
-        traffic.lanes[2] = Lane {
-            entry: 1,
-            centre: 1500,
-            factor: 0,
-        };
+        load(traffic, 2, (1, 1500, 0))
     });
     // Lane 2 left out, with the value kept.
     refuses_part(&call, NORMAL_LEAST, EFFECT_DIFFERS, |traffic| {
@@ -438,23 +433,18 @@ fn takes_placement(call: &Call, of: Part<Traffic>, change: impl Fn(&mut Traffic)
 }
 
 /// Loads a lane of that job with HN at this factor.
-fn load(traffic: &mut Traffic, lane: usize, factor: i64) {
-    traffic.set |= 1 << lane;
-    traffic.lanes[lane] = Lane {
-        entry: 1,
-        centre: (400 * lane as i64 + 200) * 5,
-        factor,
-    };
+fn load_at(traffic: &mut Traffic, lane: usize, factor: i64) {
+    load(traffic, lane, (1, (400 * lane as i64 + 200) * 5, factor));
 }
 
 /// One may have the next factor; both may have the next two, in either order.
 #[track_caller]
 fn takes_lanes_that_give_0(call: &Call, of: Part<Traffic>) {
-    takes_placement(call, of, |traffic| load(traffic, 0, 16));
+    takes_placement(call, of, |traffic| load_at(traffic, 0, 16));
     for (first, last) in [(16, 14), (14, 16)] {
         takes_placement(call, of, |traffic| {
-            load(traffic, 0, first);
-            load(traffic, 4, last);
+            load_at(traffic, 0, first);
+            load_at(traffic, 4, last);
         });
     }
 }
@@ -465,11 +455,11 @@ fn takes_lanes_that_give_0(call: &Call, of: Part<Traffic>) {
 fn refuses_wrong_factors_of_lane_1(call: &Call, of: Part<Traffic>) {
     for factor in [0, 14, 20] {
         refuses_part(call, of, "additional lanes have factor", |traffic| {
-            load(traffic, 0, factor)
+            load_at(traffic, 0, factor)
         });
     }
     refuses_part(call, of, "placement's effect", |traffic| {
-        load(traffic, 0, 18);
+        load_at(traffic, 0, 18);
         traffic.lanes[3].factor = 16;
     });
     refuses_part(call, of, "unloaded but has a factor", |traffic| {
@@ -608,13 +598,9 @@ fn equally_good_placements_are_free() {
         &Call::of(&job_a()),
         &[("a lane that gives 0", |account| {
             let traffic = &mut account.normal_least;
-            traffic.set = 0b10;
+            traffic.set = 0;
             traffic.lanes[0] = Lane::default();
-            traffic.lanes[1] = Lane {
-                entry: 2,
-                centre: 1100,
-                factor: 0,
-            };
+            load(traffic, 1, (2, 1100, 0));
         })],
     );
     // Five lanes of 400 cm, the centres from 750 to 1250 fifths on.

@@ -4,7 +4,7 @@
 mod common;
 
 use common::call::{
-    refuses_accounts, refuses_centres, takes_accounts, Call, NORMAL_GREATEST, NORMAL_LEAST,
+    load, refuses_accounts, refuses_centres, takes_accounts, Call, NORMAL_GREATEST, NORMAL_LEAST,
     OVERLOAD_GREATEST,
 };
 use second::account::Lane;
@@ -206,27 +206,15 @@ fn ties_across_the_median_are_free() {
                 exchange_roles(&mut account.overload_greatest.lanes, 1, 2)
             }),
             ("a lane of nothing as the second additional", |account| {
-                let traffic = &mut account.overload_greatest;
-                traffic.set |= 1 << 3;
-                traffic.lanes[3] = Lane {
-                    entry: 1,
-                    centre: 1100,
-                    factor: 18,
-                };
+                load(&mut account.overload_greatest, 3, (1, 1100, 18))
             }),
         ],
     );
     refuses_accounts(
         &call,
         &[("lane 4: its centre is outside", |account| {
-            let traffic = &mut account.overload_greatest;
-            traffic.set |= 1 << 3;
             // From the first's left kerb.
-            traffic.lanes[3] = Lane {
-                entry: 1,
-                centre: 2700,
-                factor: 18,
-            };
+            load(&mut account.overload_greatest, 3, (1, 2700, 18))
         })],
     );
 }

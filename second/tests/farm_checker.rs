@@ -4,11 +4,11 @@
 mod common;
 
 use common::call::{
-    refuses, refuses_accounts, refuses_part, takes_accounts, Call, Part, SERVICE_GREATEST,
+    load, refuses, refuses_accounts, refuses_part, takes_accounts, Call, Part, SERVICE_GREATEST,
     SERVICE_LEAST, ULTIMATE_GREATEST, ULTIMATE_LEAST,
 };
 use common::{definition, pieces, small_farm_job};
-use second::account::{Governing, Lane};
+use second::account::Governing;
 use second::farm_job::farm_job;
 use second::generator::{case, Stream};
 
@@ -104,22 +104,10 @@ fn a_loaded_overload_is_refused() {
         &governed_by_3a(),
         &[
             ("a lane is loaded", |account| {
-                let overload = &mut account.overload_greatest;
-                overload.set = 1;
-                overload.lanes[0] = Lane {
-                    entry: 2,
-                    centre: 150,
-                    factor: 0,
-                };
+                load(&mut account.overload_greatest, 0, (2, 150, 0))
             }),
             ("a lane is loaded", |account| {
-                let overload = &mut account.overload_least;
-                overload.set = 1;
-                overload.lanes[0] = Lane {
-                    entry: 4,
-                    centre: 150,
-                    factor: 0,
-                };
+                load(&mut account.overload_least, 0, (4, 150, 0))
             }),
             ("does not agree with the lane set", |account| {
                 account.overload_least.set = 1

@@ -1,6 +1,6 @@
 //! A kernel's call, to be tampered with and judged by the checker.
 
-use second::account::{Governing, Traffic};
+use second::account::{Governing, Lane, Traffic};
 use second::checker::check;
 use second::job::Job;
 use second::{solve, Account, Answer};
@@ -40,6 +40,16 @@ impl Call {
         change(&mut changed);
         changed
     }
+}
+
+/// Loads a lane with this entry, centre and factor.
+pub fn load(traffic: &mut Traffic, lane: usize, (entry, centre, factor): (u32, i64, i64)) {
+    traffic.set |= 1 << lane;
+    traffic.lanes[lane] = Lane {
+        entry,
+        centre,
+        factor,
+    };
 }
 
 /// A change of a call or of a part of it.
