@@ -81,7 +81,7 @@ fn header_kinds(words: &[i32], place: usize) -> Vec<String> {
     let mut kinds = vec![format!("word {place} is {word}")];
     match place {
         1 if (1..50).contains(&word) => kinds.push("word 1 between piece lengths".into()),
-        2 if word == 1000 / h + 1 => kinds.push("word 2 one too many for h".into()),
+        2 if word <= 1000 && word == 1000 / h + 1 => kinds.push("word 2 one too many for h".into()),
         6 | 10 => kinds.push(format!("word {place} is {word} with kind {kind}")),
         _ => {}
     }
@@ -139,6 +139,7 @@ fn table_kinds(words: &[i32], place: usize) -> Vec<String> {
     let at = entry_place(words, place).expect("a word of the tables");
     let (entry, number, word) = (at.entry, at.number, words[place]);
     let past = |name: &str, count: i32| match i64::from(word) - i64::from(count) {
+        1 if count == 0 => format!("{name} 1 where there are none"),
         over @ 1.. => format!("{name} past the last by {over}"),
         _ => format!("{name} {word}"),
     };
@@ -408,8 +409,10 @@ fn tables_due() -> Vec<String> {
         "live factor 3001 of kind 2",
         "first record -1",
         "first record past the last by 1",
+        "first record 1 where there are none",
         "effect named 0",
         "effect named past the last by 1",
+        "effect named 1 where there are none",
         "factor -1",
         "factor 3001",
         "next -1",

@@ -4,7 +4,7 @@
 
 use super::farm::short_farm_job;
 use super::{
-    bare_job, changed_job, level_piece, of_job, with_short_second_carriageway, with_words,
+    bare_job, changed_job, fronts, level_piece, of_job, with_short_second_carriageway, with_words,
 };
 use crate::edition::Edition;
 use crate::generator::Case;
@@ -109,7 +109,7 @@ fn of_edition_1(sections: &Sections) -> Vec<Vec<Change>> {
             sections.line.start,
             &[(1, -5001), (1, 5001), (4, -5001), (4, 5001)],
         ),
-        at(sections.rows.start, &[(6, -1), (6, 3001)]),
+        at(sections.rows.start, &[(3, 6), (6, -1), (6, 3001)]),
         // The tail's last record leads to itself.
         at(sections.records.start, &[(11, 4)]),
     ]
@@ -226,21 +226,38 @@ fn same_effect_before_the_tail(sections: &Sections) -> Vec<Change> {
     ]
 }
 
-/// Bytes of the job or of the patch buffer, too few or too many.
+/// Tables left out, and bytes of the job or of the patch buffer too few or too many.
 fn of_other_lengths(job: &Job) -> Vec<Case> {
-    let whole = of_job(job);
     match job.edition {
-        Edition::One | Edition::Three => vec![],
-        Edition::Two => {
-            let mut a_byte_over = whole;
-            a_byte_over.job.push(0);
-            vec![a_byte_over]
-        }
+        Edition::One => vec![without_effects(job)],
+        Edition::Two => vec![a_byte_over(job), without_effects(job), without_records(job)],
+        Edition::Three => vec![without_effects(job), without_records(job)],
         Edition::Four => {
-            let mut word_0 = whole.clone();
-            word_0.job.truncate(WORD_BYTES);
-            let a_word_more = with_words(whole.clone(), |words| words.push(0));
-            vec![word_0, a_word_more, changed_job(job, &[], 0)]
+            let a_word_more = with_words(of_job(job), |words| words.push(0));
+            let others = [a_word_more, changed_job(job, &[], 0)];
+            fronts(job, WORD_BYTES..=WORD_BYTES).chain(others).collect()
         }
     }
+}
+
+/// The records name effects all the same.
+fn without_effects(job: &Job) -> Case {
+    of_job(&Job {
+        effects: vec![],
+        ..job.clone()
+    })
+}
+
+/// The rows name records all the same.
+fn without_records(job: &Job) -> Case {
+    of_job(&Job {
+        records: vec![],
+        ..job.clone()
+    })
+}
+
+fn a_byte_over(job: &Job) -> Case {
+    let mut case = of_job(job);
+    case.job.push(0);
+    case
 }
