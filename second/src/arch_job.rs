@@ -2,9 +2,10 @@
 
 use crate::edition::Edition;
 use crate::job::{
-    Effect, Job, Piece, Record, Row, ALWAYS_PRESENT, LIVE_NONE, LIVE_NORMAL, LIVE_OVERLOAD,
+    Effect, Job, Record, Row, ALWAYS_PRESENT, LIVE_NONE, LIVE_NORMAL, LIVE_OVERLOAD,
     MAY_BE_LEFT_OUT, SERVICE, ULTIMATE,
 };
+use crate::line::there_and_back;
 
 /// The ordinates in cm, every 5 m from a springing to the crown.
 const HALF_LINE: [i64; 11] = [0, -61, -113, -148, -160, -142, -88, 0, 140, 320, 547];
@@ -14,14 +15,6 @@ const HALF_LINE: [i64; 11] = [0, -61, -113, -148, -160, -142, -88, 0, 140, 320, 
 /// span and its thrust's relief, both past edition 1's limits; the arch's
 /// shortening, and braking.
 pub fn arch_job() -> Job {
-    let rising = HALF_LINE.windows(2).map(|ordinates| Piece {
-        left: ordinates[0],
-        right: ordinates[1],
-    });
-    let falling = rising.clone().rev().map(|piece| Piece {
-        left: piece.right,
-        right: piece.left,
-    });
     Job {
         edition: Edition::Two,
         piece_length: 50,
@@ -30,7 +23,7 @@ pub fn arch_job() -> Job {
         dynamic_kind: 1,
         dynamic_value: 1109,
         further_header: vec![0, 0],
-        pieces: rising.chain(falling).collect(),
+        pieces: there_and_back(&HALF_LINE),
         transverse: (0..=18).map(|number| 950 - 50 * number).collect(),
         second_transverse: vec![],
         effects: vec![

@@ -4,17 +4,22 @@
 //! Those of edition 4 are in chosen/farm.rs, those of edition 2 in
 //! chosen/edition_2.rs, those with spans by sign in chosen/spans.rs, those of edition 3
 //! in chosen/edition_3.rs. Those of additional overload lanes, in
-//! chosen/overload_lanes.rs, go with no one stream.
+//! chosen/overload_lanes.rs, go with no one stream. Those of chosen/places.rs, refused at
+//! places where no other is, end each edition's.
 
 mod edition_2;
 pub mod edition_3;
 mod farm;
 pub mod overload_lanes;
+pub mod places;
 mod spans;
 
 use crate::edition::Edition;
 use crate::generator::{Case, Stream};
-use crate::job::{Effect, Job, Piece, Record, Row, MAY_BE_LEFT_OUT};
+use crate::job::{
+    Effect, Job, Piece, Record, Row, ALWAYS_PRESENT, LIVE_NORMAL, LIVE_OVERLOAD, MAY_BE_LEFT_OUT,
+    SERVICE, ULTIMATE,
+};
 use crate::job_a::job_a;
 use crate::sections::{
     DYNAMIC_KIND, DYNAMIC_VALUE, EFFECTS, PIECES, PIECE_LENGTH, RECORDS, ROWS, WIDTH,
@@ -118,7 +123,7 @@ pub fn stored_after(stream: Stream) -> impl Iterator<Item = Case> {
 
 /// The chosen cases that go with a stream, in the order in which they are stored.
 pub fn cases(stream: Stream) -> impl Iterator<Item = Case> {
-    let cases: Vec<Case> = match stream {
+    let mut cases: Vec<Case> = match stream {
         Stream::One => {
             let built = BUILDERS.into_iter().map(|build| build());
             built
@@ -127,9 +132,10 @@ pub fn cases(stream: Stream) -> impl Iterator<Item = Case> {
         }
         Stream::Two => edition_2::cases(),
         Stream::Four => farm::cases(),
-        Stream::Spans => spans::cases(),
+        Stream::Spans => return spans::cases().into_iter(),
         Stream::Three => edition_3::cases(),
     };
+    cases.extend(places::cases(stream.edition()));
     cases.into_iter()
 }
 
@@ -143,17 +149,10 @@ fn most_words() -> Case {
     job_a_with(|job| {
         (job.piece_length, job.spacing, job.width) = (1, 10, 2079);
         job.pieces = (0..1000).map(piece_of_its_own).collect();
-        job.transverse = (0..209).map(|at| at * 71 % 2001 - 1000).collect();
+        job.transverse = most_across(71);
         job.effects = sixteen_effects();
         job.records = chains_of(16);
-        job.rows = (0..32)
-            .map(|at| Row {
-                state: 1 + at as i64 % 2,
-                live_kind: 1 + at as i64 / 2 % 2,
-                live_factor: 1500 - at as i64,
-                first: 16 * at + 1,
-            })
-            .collect();
+        job.rows = most_rows();
     })
 }
 
@@ -263,6 +262,26 @@ fn bare_job(edition: Edition, further_header: Vec<i64>) -> Job {
     }
 }
 
+/// Two pieces of both signs, W 300, an effect and two rows with traffic.
+fn short_job_of_edition_2() -> Job {
+    Job {
+        pieces: vec![level_piece(8), level_piece(-6)],
+        effects: vec![Effect::new(5_000_000_000, ALWAYS_PRESENT)],
+        rows: vec![
+            Row::new(SERVICE, LIVE_NORMAL, 1350, 1),
+            Row::new(ULTIMATE, LIVE_OVERLOAD, 1500, 2),
+        ],
+        records: vec![Record::new(1, 1000, 0), Record::new(1, 1200, 0)],
+        ..bare_job(Edition::Two, vec![0; 2])
+    }
+}
+
+/// A job of edition 2 with a second carriageway of 350 cm, whose ordinates are 50 cm
+/// apart.
+fn with_short_second_carriageway(job: Job) -> Job {
+    job.with_second_carriageway(350, vec![-60, 900, 70, 640, 510, 480, -220, 990])
+}
+
 /// The longest line of the longest pieces, level at this ordinate.
 fn longest_level_line(ordinate: i64) -> Vec<Piece> {
     vec![level_piece(ordinate); 20]
@@ -302,6 +321,20 @@ fn sixteen_effects() -> Vec<Effect> {
             mark: MAY_BE_LEFT_OUT,
         })
         .collect()
+}
+
+/// As many ordinates as a carriageway can have, which differ by this step.
+fn most_across(step: i64) -> Vec<i64> {
+    (0..209).map(|at| at * step % 2001 - 1000).collect()
+}
+
+/// All 32 rows, of both states with either traffic, each with a chain of sixteen records.
+fn most_rows() -> Vec<Row> {
+    let row = |at: usize| {
+        let (state, live_kind) = (1 + at as i64 % 2, 1 + at as i64 / 2 % 2);
+        Row::new(state, live_kind, 1500 - at as i64, 16 * at + 1)
+    };
+    (0..32).map(row).collect()
 }
 
 /// All 512 records, in chains of this length that name the sixteen effects in

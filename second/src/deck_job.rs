@@ -2,9 +2,10 @@
 
 use crate::edition::Edition;
 use crate::job::{
-    Effect, Job, Piece, Record, Row, ALWAYS_PRESENT, LIVE_NORMAL, LIVE_OVERLOAD, MAY_BE_LEFT_OUT,
-    SERVICE, ULTIMATE,
+    Effect, Job, Record, Row, ALWAYS_PRESENT, LIVE_NORMAL, LIVE_OVERLOAD, MAY_BE_LEFT_OUT, SERVICE,
+    ULTIMATE,
 };
+use crate::line::pieces_between;
 
 /// The ordinates in cm of the span with the section, every 2.5 m from its abutment to
 /// the pier; the section is 10 m from the abutment.
@@ -28,7 +29,6 @@ const RIGHT_KERB: i64 = -173;
 /// The moment 10 m from an abutment in a beam continuous over two spans of 25 m, in cm,
 /// of the third of four girders; a carriageway of 16 m with four lanes.
 pub fn deck_job() -> Job {
-    let spans = [FIRST_SPAN, SECOND_SPAN];
     Job {
         edition: Edition::One,
         piece_length: 25,    // h, 2.5 m
@@ -37,7 +37,9 @@ pub fn deck_job() -> Job {
         dynamic_kind: 1,     // the factor itself
         dynamic_value: 1239, // 1 + 15/(L + 38), rounded up; L is a span, 25 m
         further_header: vec![],
-        pieces: spans.iter().flat_map(|span| pieces(span)).collect(),
+        pieces: [FIRST_SPAN, SECOND_SPAN]
+            .map(|span| pieces_between(&span))
+            .concat(),
         transverse: [LANES.as_flattened(), &[RIGHT_KERB]].concat(),
         second_transverse: vec![],
         // In kN·cm; the line's area is 2.5 m * (2381 - 619) cm = 4405 m·cm.
@@ -45,23 +47,25 @@ pub fn deck_job() -> Job {
             Effect::new(198_225, ALWAYS_PRESENT), // dead load, 45 kN/m
             Effect::new(44_050, MAY_BE_LEFT_OUT), // superimposed dead load, 10 kN/m
         ],
-        rows: vec![
-            Row::new(SERVICE, LIVE_NORMAL, 1350, 1), // live factor, first record
-            Row::new(ULTIMATE, LIVE_OVERLOAD, 1500, 3),
-        ],
-        records: vec![
-            Record::new(1, 1000, 2), // service: dead load
-            Record::new(2, 1000, 0), // and superimposed
-            Record::new(1, 1200, 4), // ultimate: dead load
-            Record::new(2, 1200, 0), // and superimposed
-        ],
+        rows: rows(),
+        records: records(),
     }
 }
 
-/// The pieces between a span's ordinates.
-fn pieces(span: &[i64]) -> impl Iterator<Item = Piece> + '_ {
-    span.windows(2).map(|ordinates| Piece {
-        left: ordinates[0],
-        right: ordinates[1],
-    })
+/// A service row and an ultimate one, each of dead load and superimposed dead load.
+pub(crate) fn rows() -> Vec<Row> {
+    vec![
+        Row::new(SERVICE, LIVE_NORMAL, 1350, 1), // live factor, first record
+        Row::new(ULTIMATE, LIVE_OVERLOAD, 1500, 3),
+    ]
+}
+
+/// The chains of these rows.
+pub(crate) fn records() -> Vec<Record> {
+    vec![
+        Record::new(1, 1000, 2), // service: dead load
+        Record::new(2, 1000, 0), // and superimposed
+        Record::new(1, 1200, 4), // ultimate: dead load
+        Record::new(2, 1200, 0), // and superimposed
+    ]
 }

@@ -17,6 +17,24 @@ pub fn pieces_of(section: &[i32]) -> Vec<Piece> {
         .collect()
 }
 
+/// The pieces of a line that goes straight from each of these ordinates to the next.
+pub fn pieces_between(ordinates: &[i64]) -> Vec<Piece> {
+    ordinates
+        .windows(2)
+        .map(|two| Piece {
+            left: two[0],
+            right: two[1],
+        })
+        .collect()
+}
+
+/// The pieces of a line through these ordinates and back.
+pub fn there_and_back(ordinates: &[i64]) -> Vec<Piece> {
+    let back = ordinates.iter().rev().skip(1);
+    let all: Vec<i64> = ordinates.iter().chain(back).copied().collect();
+    pieces_between(&all)
+}
+
 /// The ordinates of a line's section, a left and a right one a piece.
 pub fn ordinates_of(line: &[Piece]) -> impl Iterator<Item = i64> + '_ {
     line.iter().flat_map(|piece| [piece.left, piece.right])

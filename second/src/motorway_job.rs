@@ -1,10 +1,9 @@
 //! The example of edition 3: a motorway deck with a median.
 
+use crate::deck_job::{records, rows};
 use crate::edition::Edition;
-use crate::job::{
-    Effect, Job, Piece, Record, Row, ALWAYS_PRESENT, LIVE_NORMAL, LIVE_OVERLOAD, MAY_BE_LEFT_OUT,
-    SERVICE, SPANS_BY_SIGN, ULTIMATE,
-};
+use crate::job::{Effect, Job, ALWAYS_PRESENT, MAY_BE_LEFT_OUT, SPANS_BY_SIGN};
+use crate::line::pieces_between;
 
 /// The ordinates in cm of the span of 20 m, every 2.5 m from its abutment to the pier;
 /// the section is 7.5 m from the abutment.
@@ -31,7 +30,6 @@ const SECOND: [i64; 20] = [
 /// spans of 20 m and 15 m, in cm, of a girder near the median; carriageways of 11 m
 /// with three lanes and of 7.6 m with two.
 pub fn motorway_job() -> Job {
-    let spans = [&LONG_SPAN[..], &SHORT_SPAN];
     Job {
         edition: Edition::Three,
         piece_length: 25, // h, 2.5 m
@@ -43,7 +41,7 @@ pub fn motorway_job() -> Job {
             175, // L for least, the average of the spans beside the pier
             0, 760, // the second width, two lanes of 380 cm
         ],
-        pieces: spans.iter().flat_map(|span| pieces(span)).collect(),
+        pieces: [pieces_between(&LONG_SPAN), pieces_between(&SHORT_SPAN)].concat(),
         transverse: FIRST.to_vec(),
         second_transverse: SECOND.to_vec(),
         // In N·cm; the line's area is 2.5 m * (1454 - 177) cm = 3192.5 m·cm.
@@ -51,23 +49,7 @@ pub fn motorway_job() -> Job {
             Effect::new(127_700_000, ALWAYS_PRESENT), // dead load, 40 kN/m
             Effect::new(38_310_000, MAY_BE_LEFT_OUT), // superimposed dead load, 12 kN/m
         ],
-        rows: vec![
-            Row::new(SERVICE, LIVE_NORMAL, 1350, 1), // live factor, first record
-            Row::new(ULTIMATE, LIVE_OVERLOAD, 1500, 3),
-        ],
-        records: vec![
-            Record::new(1, 1000, 2), // service: dead load
-            Record::new(2, 1000, 0), // and superimposed
-            Record::new(1, 1200, 4), // ultimate: dead load
-            Record::new(2, 1200, 0), // and superimposed
-        ],
+        rows: rows(),
+        records: records(),
     }
-}
-
-/// The pieces between a span's ordinates.
-fn pieces(span: &[i64]) -> impl Iterator<Item = Piece> + '_ {
-    span.windows(2).map(|ordinates| Piece {
-        left: ordinates[0],
-        right: ordinates[1],
-    })
 }

@@ -155,15 +155,8 @@ impl Train {
     }
 
     pub fn rating(&self) -> Rating {
-        let (greatest, greatest_stand) = self.furthest(Question::Greatest);
-        let (least, least_stand) = self.furthest(Question::Least);
-        Rating {
-            greatest,
-            least,
-            difference: greatest - least,
-            greatest_stand,
-            least_stand,
-        }
+        let [greatest, least] = Question::BOTH.map(|question| self.furthest(question));
+        Rating::new(greatest, least)
     }
 }
 

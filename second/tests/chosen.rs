@@ -1,9 +1,16 @@
 //! The chosen cases reach what they are chosen for.
 
-use second::chosen::{self, PAST_LIMITS};
+use second::chosen::{self, places, PAST_LIMITS};
 use second::edition::Edition;
-use second::generator::Stream;
+use second::generator::{Case, Stream};
 use second::{solve, store};
+
+/// The chosen cases of a stream that come before those for places.
+fn before_places(stream: Stream) -> Vec<Case> {
+    let mut cases: Vec<Case> = chosen::cases(stream).collect();
+    cases.truncate(cases.len() - places::cases(stream.edition()).len());
+    cases
+}
 
 /// Job A's rows follow 10 words, 40 ordinates, 19 transverse ones and, here,
 /// sixteen effects: they start at word 101.
@@ -22,10 +29,12 @@ fn their_lengths_and_answers() {
     assert_eq!(reached.take(due.len()).collect::<Vec<_>>(), due);
 }
 
-/// Edition 2's last two: every section as long as it may be, and a word more.
+/// Edition 2's last two but for places: every section as long as it may be, and a word
+/// more.
 #[test]
 fn the_most_words_of_edition_2() {
-    let reached: Vec<_> = chosen::cases(Stream::Two)
+    let reached: Vec<_> = before_places(Stream::Two)
+        .into_iter()
         .map(|mut case| {
             let answer = solve(&case.job, &mut case.patch);
             (case.job.len(), answer.refusal, answer.place)
@@ -87,11 +96,9 @@ fn dividends_next_to_32_bits() {
 /// A word past its limit is refused at its place.
 #[test]
 fn past_a_limit_the_word_is_refused() {
-    let before = chosen::cases(Stream::One).count() - PAST_LIMITS.len();
-    for (changes, mut case) in PAST_LIMITS
-        .iter()
-        .zip(chosen::cases(Stream::One).skip(before))
-    {
+    let cases = before_places(Stream::One);
+    let before = cases.len() - PAST_LIMITS.len();
+    for (changes, mut case) in PAST_LIMITS.iter().zip(cases.into_iter().skip(before)) {
         let (place, word) = changes[changes.len() - 1];
         let answer = solve(&case.job, &mut case.patch);
         let due = if place < Edition::One.header_words() {
@@ -104,6 +111,20 @@ fn past_a_limit_the_word_is_refused() {
             (due, place as u64),
             "word {word}"
         );
+    }
+}
+
+/// Those for places have a fault each; their job without it has none.
+#[test]
+fn jobs_for_places_are_refused() {
+    for edition in Edition::ALL {
+        let sound = places::short_job(edition);
+        let mut patch = vec![0; sound.pieces.len()];
+        assert_eq!(solve(&sound.bytes(), &mut patch).refusal, 0, "{edition:?}");
+        for (number, mut case) in places::cases(edition).into_iter().enumerate() {
+            let refusal = solve(&case.job, &mut case.patch).refusal;
+            assert_ne!(refusal, 0, "{edition:?}, chosen case {number}");
+        }
     }
 }
 

@@ -4,10 +4,10 @@
 mod common;
 
 use common::streams::{
-    answer_to, header_word_labels, refusal_labels, section_labels, shape_labels, Asked,
-    REFUSALS_IN_EVERY_EDITION,
+    answer_to, header_word_labels, refusal_labels, refusals_due, refusals_of_tables_due,
+    section_labels, shape_labels, shapes_due, state_labels, states_due, texts, Asked,
 };
-use second::account::{Account, State};
+use second::account::Account;
 use second::edition::Edition;
 use second::generator::{Case, Stream};
 use second::job::Job;
@@ -31,7 +31,8 @@ fn labels(case: &Case) -> Vec<String> {
     }
     let mut labels = job_labels(&job);
     labels.extend(value_labels(&job));
-    labels.extend(outcome_labels(&job, &answer.account));
+    labels.extend(state_labels(&job, &answer.account));
+    labels.extend(size_labels(&answer.account));
     labels
 }
 
@@ -39,7 +40,7 @@ fn place_labels(words: &[i32], number: u64, place: usize) -> Vec<String> {
     if number == 2 {
         return header_labels(words, place);
     }
-    let mut labels = section_labels(words, place, 3);
+    let mut labels = section_labels(words, place);
     let sections = Sections::called_for_by(words);
     if sections.effects.contains(&place) {
         labels.extend(effect_labels(words, &sections, place));
@@ -129,61 +130,33 @@ fn value_labels(job: &Job) -> Vec<String> {
     labels
 }
 
-fn outcome_labels(job: &Job, account: &Account) -> Vec<String> {
+/// How large the values of the states are.
+fn size_labels(account: &Account) -> Vec<String> {
     let mut labels = vec![];
     for (name, state) in [("service", account.service), ("ultimate", account.ultimate)] {
-        if state.present == 0 {
-            labels.push(format!("{name} none"));
-            continue;
-        }
         for question in Question::BOTH {
-            let outcomes = state_labels(job, &state, question);
-            labels.extend(outcomes.map(|label| format!("{name} {question:?}{label}")));
+            let size = state.governing(question).value.unsigned_abs();
+            let named = [
+                ("past 4.8e18", size > 4_800_000_000_000_000_000),
+                ("is the largest", size == 4_800_115_362_000_000_000),
+                ("past 32 bits", size > 1 << 32),
+            ];
+            let holding = named.into_iter().filter(|(_, holds)| *holds);
+            labels.extend(holding.map(|(label, _)| format!("{name} {question:?} {label}")));
         }
     }
     labels
 }
 
-fn state_labels(job: &Job, state: &State, question: Question) -> impl Iterator<Item = String> {
-    let governing = *state.governing(question);
-    let row = job.rows[governing.row as usize - 1];
-    let later = &job.rows[governing.row as usize..];
-    let size = governing.value.unsigned_abs();
-    [
-        (true, format!(" of kind {}", row.live_kind)),
-        (governing.omitted != 0, " leaves out effects".into()),
-        (later.contains(&row), " ties".into()),
-        (governing.row > 1, " past row 1".into()),
-        (size > 4_800_000_000_000_000_000, " past 4.8e18".into()),
-        (size == 4_800_115_362_000_000_000, " is the largest".into()),
-        (size > 1 << 32, " past 32 bits".into()),
-    ]
-    .into_iter()
-    .filter_map(|(holds, label)| holds.then_some(label))
-}
-
-fn expected_labels() -> BTreeSet<String> {
-    let mut expected = expected_refusals();
-    expected.extend(expected_effect_faults());
-    expected.extend(expected_jobs());
-    expected.extend(expected_outcomes());
-    expected.into_iter().collect()
-}
-
 fn expected_refusals() -> Vec<String> {
-    let mut expected: Vec<String> = [
+    let mut expected = texts(&[
         "4: piece word 0",
         "4: piece word 1",
         "4: transverse word 0",
         "5: piece word 0",
-        "6: first effect",
-        "6: last effect",
-        "7: row word 0",
-        "8: row word 0",
-    ]
-    .map(String::from)
-    .to_vec();
-    expected.extend(REFUSALS_IN_EVERY_EDITION.map(String::from));
+    ]);
+    expected.extend(refusals_due());
+    expected.extend(refusals_of_tables_due());
     expected.extend([40, 43, 44, 47].map(|bytes| format!("1: {bytes} bytes")));
     expected.extend([0, 5, -2].map(|edition| format!("1: edition {edition}")));
     expected.extend((1..=11).map(|place| format!("2: word {place}")));
@@ -193,14 +166,11 @@ fn expected_refusals() -> Vec<String> {
         expected.extend((1..place).map(|lower| format!("2: word {lower} before {place}")));
     }
     expected.extend((2..=8).map(|number| format!("{number}: before 9")));
-    for (name, words) in [("row", 4), ("record", 3)] {
-        expected.extend((0..words).map(|word| format!("6: {name} word {word}")));
-    }
     expected
 }
 
 fn expected_effect_faults() -> Vec<String> {
-    let mut expected = vec!["6: effect word 0".into(), "6: effect word 2".into()];
+    let mut expected = texts(&["6: effect word 2"]);
     expected.extend([0, 3].map(|mark| format!("6: mark {mark}")));
     for side in ["above", "below"] {
         expected.push(format!("6: {side} its limits"));
@@ -221,7 +191,7 @@ fn expected_effect_faults() -> Vec<String> {
 }
 
 fn expected_jobs() -> Vec<String> {
-    let mut expected: Vec<String> = [
+    let mut expected = texts(&[
         "a chain of 0",
         "a chain of 16",
         "sixteen at their limits, signs {1}",
@@ -231,12 +201,8 @@ fn expected_jobs() -> Vec<String> {
         "the low half's top bit, high half -1",
         "the low half's top bit, high half 0",
         "the low half's top bit, high half 1",
-    ]
-    .map(String::from)
-    .to_vec();
-    expected.extend([1, 2, 5, 10, 25, 50].map(|h| format!("h {h}")));
-    expected.extend((1..=5).map(|lanes| format!("{lanes} lanes")));
-    expected.extend((1..=3).map(|kind| format!("dynamic kind {kind}")));
+    ]);
+    expected.extend(shapes_due(1..=5, 1..=3));
     expected.extend((0..=2).map(|kind| format!("live kind {kind}")));
     expected.extend([0, 1, 16].map(|effects| format!("{effects} effects")));
     expected.extend([1, 32].map(|rows| format!("{rows} rows")));
@@ -252,31 +218,28 @@ fn expected_jobs() -> Vec<String> {
     expected
 }
 
-fn expected_outcomes() -> Vec<String> {
+fn expected_sizes() -> Vec<String> {
     let mut expected = vec![];
-    for name in ["service", "ultimate"] {
-        expected.push(format!("{name} none"));
-        for question in ["Greatest", "Least"] {
-            expected.extend((0..=2).map(|kind| format!("{name} {question} of kind {kind}")));
-            for label in [
-                "leaves out effects",
-                "ties",
-                "past row 1",
-                "past 4.8e18",
-                "past 32 bits",
-            ] {
-                expected.push(format!("{name} {question} {label}"));
-            }
+    for question in Question::BOTH {
+        for name in ["service", "ultimate"] {
+            let sizes = ["past 4.8e18", "past 32 bits"];
+            expected.extend(sizes.map(|size| format!("{name} {question:?} {size}")));
         }
+        expected.push(format!("ultimate {question:?} is the largest"));
     }
-    expected.extend(["Greatest", "Least"].map(|q| format!("ultimate {q} is the largest")));
     expected
 }
 
 stream_tests!(Asked {
     stream: Stream::Two,
     labels,
-    expected_labels,
+    expected: &[
+        expected_refusals,
+        expected_effect_faults,
+        expected_jobs,
+        states_due,
+        expected_sizes,
+    ],
     seeds: 20_000,
     with_chosen: true,
     order: &[1, 2, 3, 4, 5, 6, 7, 8, 9],

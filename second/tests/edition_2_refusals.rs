@@ -1,18 +1,17 @@
 //! 02 "Effects past a word": what the yard hears back about a job of edition 2.
-//! The places are counted by hand from the words of `SOUND`, never taken from the
+//! The places are counted by hand from `WORDS`, never taken from the
 //! code.
 
 mod common;
 
 use common::refusals::{
-    self, accepted_with, no_job_of_lengths, refused, refused_at_each,
-    refused_with_a_word_more_or_fewer, refused_without_a_patch_buffer, HEADER_FAULTS, LARGEST,
-    ORDINATES_PAST_LIMITS, TRANSVERSE_PAST_LIMITS,
+    refused, Sound, COUNT_FAULTS, HEADER_FAULTS, LARGEST, ORDINATES_PAST_LIMITS,
+    TRANSVERSE_PAST_LIMITS,
 };
-use second::words::{bytes_of, changed, Change};
+use second::words::{bytes_of, changed};
 
 /// A sound job of edition 2, of 41 words.
-const SOUND: [i32; 41] = [
+const WORDS: [i32; 41] = [
     // 0 to 11: edition, h, N, g, W, dynamic kind and value, E, R, C, two zeros.
     2, 50, 1, 50, 300, 2, 0, 2, 2, 2, 0, 0, //
     // 12 and 13: one piece.
@@ -27,6 +26,8 @@ const SOUND: [i32; 41] = [
     1, 1000, 2, 2, 1200, 0,
 ];
 
+const SOUND: Sound = Sound(&WORDS);
+
 /// 10^14 = 23283 * 2^32 + 276447232, so -10^14 = -23284 * 2^32 + 4018520064, and
 /// 4018520064 as a signed word is -276447232.
 const MOST_LOW: i32 = 276_447_232;
@@ -34,26 +35,20 @@ const MOST_HIGH: i32 = 23_283;
 const LEAST_LOW: i32 = -276_447_232;
 const LEAST_HIGH: i32 = -23_284;
 
-#[track_caller]
-fn refused_with(changes: &[Change], expected: (u64, u64)) {
-    refusals::refused_with(&SOUND, changes, expected);
-}
-
 #[test]
 fn the_sound_job_is_accepted() {
-    accepted_with(&SOUND, &[]);
+    SOUND.accepted_with(&[]);
 }
 
 #[test]
-fn refusal_1_below_twelve_words() {
-    no_job_of_lengths(&SOUND, 0..48);
-    refused(&bytes_of(&SOUND)[..48], 1, (3, 41), "the header alone");
+fn refusal_1_for_uneven_bytes_and_below_twelve_words() {
+    SOUND.has_a_header_of(12);
 }
 
 /// Ten and eleven words are headers of editions 1 and 4, not of this one.
 #[test]
 fn refusal_1_for_headers_of_other_lengths() {
-    let header = &SOUND[..12];
+    let header = &WORDS[..12];
     let front = |words: usize, edition: i32| bytes_of(&changed(&header[..words], &[(0, edition)]));
     refused(&front(10, 2), 1, (1, 0), "ten words");
     refused(&front(11, 2), 1, (1, 0), "eleven words");
@@ -66,46 +61,43 @@ fn refusal_1_for_headers_of_other_lengths() {
 }
 
 #[test]
-fn refusal_1_for_uneven_bytes_and_other_editions() {
-    no_job_of_lengths(&SOUND, [49, 50, 51, 161, 162, 163, 165, 166, 167]);
-    for edition in [0, 5, 6, -2, 258, 0x0200_0000, i32::MIN, i32::MAX] {
-        refused_with(&[(0, edition)], (1, 0));
-        refused_with(&[(0, edition), (10, 1), (23, 0)], (1, 0));
-    }
+fn refusal_1_for_other_editions() {
+    SOUND.no_job_of_other_editions(&[(10, 1), (23, 0)]);
 }
 
 /// As edition 1 the job has four words too many; as edition 3 its first ordinate, 8, is
 /// no second width; as edition 4 it has two effects where eleven are due.
 #[test]
 fn word_0_chooses_the_limits() {
-    refused_with(&[(0, 1)], (3, 37));
-    refused_with(&[(0, 3)], (2, 12));
-    refused_with(&[(0, 4)], (2, 7));
+    SOUND.refused_with(&[(0, 1)], (3, 37));
+    SOUND.refused_with(&[(0, 3)], (2, 12));
+    SOUND.refused_with(&[(0, 4)], (2, 7));
 }
 
 #[test]
 fn refusal_2_at_each_word_of_the_header() {
-    refused_at_each(&SOUND, 2, &HEADER_FAULTS);
+    SOUND.refused_at_each(2, &HEADER_FAULTS);
+    SOUND.refused_at_each(2, &COUNT_FAULTS);
     let further = [
-        (7, &[-1, 17, i32::MIN, i32::MAX][..]),
-        (8, &[0, 33, -1, i32::MIN, i32::MAX]),
-        (9, &[-1, 513, i32::MIN, i32::MAX]),
-        (10, &[1, -1, 2, 3, 2000, 0x0100_0000, i32::MIN, i32::MAX]),
+        (
+            10,
+            &[1, -1, 2, 3, 2000, 0x0100_0000, i32::MIN, i32::MAX][..],
+        ),
         (11, &[1, -1, 2, 0x0100_0000, i32::MIN, i32::MAX]),
     ];
-    refused_at_each(&SOUND, 2, &further);
+    SOUND.refused_at_each(2, &further);
 }
 
 #[test]
 fn refusal_2_at_the_lowest_place() {
-    refused_with(&[(10, 1), (11, 1)], (2, 10));
-    refused_with(&[(10, 0), (11, 1)], (2, 11));
+    SOUND.refused_with(&[(10, 1), (11, 1)], (2, 10));
+    SOUND.refused_with(&[(10, 0), (11, 1)], (2, 11));
     for (place, word) in [(1, 3), (2, 21), (3, 9), (4, 299), (5, 5), (6, 1)] {
-        refused_with(&[(place, word), (10, 1), (11, 1)], (2, place as u64));
+        SOUND.refused_with(&[(place, word), (10, 1), (11, 1)], (2, place as u64));
     }
     for (place, word) in [(7, 17), (8, 0), (9, 513)] {
-        refused_with(&[(place, word), (10, 1), (11, 1)], (2, place as u64));
-        refused_with(&[(place, word), (11, 1)], (2, place as u64));
+        SOUND.refused_with(&[(place, word), (10, 1), (11, 1)], (2, place as u64));
+        SOUND.refused_with(&[(place, word), (11, 1)], (2, place as u64));
     }
 }
 
@@ -113,7 +105,7 @@ fn refusal_2_at_the_lowest_place() {
 /// spans_refusals.rs.
 #[test]
 fn dynamic_kinds_and_values() {
-    refusals::dynamic_kinds_and_values(&SOUND);
+    SOUND.dynamic_kinds_and_values();
 }
 
 /// 2 comes before everything of a higher number.
@@ -121,9 +113,9 @@ fn dynamic_kinds_and_values() {
 fn words_10_and_11_before_all_that_follows() {
     for place in [10, 11] {
         for other in [(2, 2), (12, 5001), (13, -8), (22, 23_284), (23, 0), (37, 1)] {
-            refused_with(&[(place, 1), other], (2, place as u64));
+            SOUND.refused_with(&[(place, 1), other], (2, place as u64));
         }
-        let words = changed(&SOUND, &[(place, 1)]);
+        let words = changed(&WORDS, &[(place, 1)]);
         refused(&bytes_of(&words), 0, (2, place as u64), "no patch buffer");
     }
 }
@@ -131,38 +123,38 @@ fn words_10_and_11_before_all_that_follows() {
 /// Three words are due for an effect: 12 + 2 + 7 + 3E + 4R + 3C.
 #[test]
 fn refusal_3_for_another_word_count() {
-    refused_with_a_word_more_or_fewer(&SOUND, 41);
+    SOUND.refused_with_a_word_more_or_fewer(41);
     for (effects, due) in [(0, 35), (1, 38), (3, 44), (16, 83)] {
-        refused_with(&[(7, effects)], (3, due));
+        SOUND.refused_with(&[(7, effects)], (3, due));
     }
-    refused_with(&[(2, 2)], (3, 43));
-    refused_with(&[(3, 49)], (3, 42));
-    refused_with(&[(8, 3)], (3, 45));
-    refused_with(&[(9, 512)], (3, 41 + 3 * 510));
+    SOUND.refused_with(&[(2, 2)], (3, 43));
+    SOUND.refused_with(&[(3, 49)], (3, 42));
+    SOUND.refused_with(&[(8, 3)], (3, 45));
+    SOUND.refused_with(&[(9, 512)], (3, 41 + 3 * 510));
     // An effect fewer for a row's four words and back: 41 - 3 + 4.
-    refused_with(&[(7, 1), (8, 3)], (3, 42));
+    SOUND.refused_with(&[(7, 1), (8, 3)], (3, 42));
 }
 
 /// An effect fewer and a record more: the count is due, though the sections lie
 /// elsewhere. The words from 24 on are then rows: -1 is no state.
 #[test]
 fn sections_follow_the_header() {
-    refused_with(&[(7, 1), (9, 3)], (6, 24));
+    SOUND.refused_with(&[(7, 1), (9, 3)], (6, 24));
 }
 
 /// 12 + 2000 + 209 + 48 + 128 + 1536 words: every section as long as it may be.
 #[test]
 fn the_most_words_that_can_be_due() {
-    refused_with(&LARGEST, (3, 3933));
+    SOUND.refused_with(&LARGEST, (3, 3933));
 }
 
 #[test]
 fn refusals_4_and_5_of_the_lines() {
-    refused_at_each(&SOUND, 4, &[12, 13].map(|at| (at, ORDINATES_PAST_LIMITS)));
-    refused_at_each(&SOUND, 4, &[14, 20].map(|at| (at, TRANSVERSE_PAST_LIMITS)));
-    refused_with(&[(13, -8)], (5, 12));
-    refused_with(&[(20, 1001), (22, 23_284)], (4, 20));
-    refused_with(&[(13, -8), (22, 23_284)], (5, 12));
+    SOUND.refused_at_each(4, &[12, 13].map(|at| (at, ORDINATES_PAST_LIMITS)));
+    SOUND.refused_at_each(4, &[14, 20].map(|at| (at, TRANSVERSE_PAST_LIMITS)));
+    SOUND.refused_with(&[(13, -8)], (5, 12));
+    SOUND.refused_with(&[(20, 1001), (22, 23_284)], (4, 20));
+    SOUND.refused_with(&[(13, -8), (22, 23_284)], (5, 12));
 }
 
 /// Places of the two values' low halves.
@@ -198,7 +190,7 @@ fn values_within_their_limits_are_accepted() {
             (-1, LEAST_HIGH),
             (0, LEAST_HIGH + 1),
         ] {
-            accepted_with(&SOUND, &[(low, low_half), (low + 1, high_half)]);
+            SOUND.accepted_with(&[(low, low_half), (low + 1, high_half)]);
         }
     }
 }
@@ -219,12 +211,12 @@ fn refusal_6_at_the_low_half_for_a_value_outside() {
             (i32::MAX, LEAST_HIGH),
             (i32::MIN, LEAST_HIGH),
         ] {
-            refused_with(&[(low, low_half), (low + 1, high_half)], (6, low as u64));
+            SOUND.refused_with(&[(low, low_half), (low + 1, high_half)], (6, low as u64));
         }
         // A high half too large or too small, whatever the low half is.
         for high_half in [23_284, 23_285, i32::MAX, -23_285, -23_286, i32::MIN] {
             for low_half in [0, 1, 5, -1, MOST_LOW, LEAST_LOW, i32::MIN, i32::MAX] {
-                refused_with(&[(low, low_half), (low + 1, high_half)], (6, low as u64));
+                SOUND.refused_with(&[(low, low_half), (low + 1, high_half)], (6, low as u64));
             }
         }
     }
@@ -233,25 +225,25 @@ fn refusal_6_at_the_low_half_for_a_value_outside() {
 #[test]
 fn refusal_6_at_the_mark() {
     for mark in [0, 3, -1, 258, i32::MIN, i32::MAX] {
-        refused_with(&[(23, mark)], (6, 23));
-        refused_with(&[(26, mark)], (6, 26));
+        SOUND.refused_with(&[(23, mark)], (6, 23));
+        SOUND.refused_with(&[(26, mark)], (6, 26));
     }
-    accepted_with(&SOUND, &[(23, 2), (26, 1)]);
+    SOUND.accepted_with(&[(23, 2), (26, 1)]);
 }
 
 #[test]
 fn refusal_6_at_the_lowest_place() {
     // A value before its mark, a mark before the next value.
-    refused_with(&[(22, 23_284), (23, 0)], (6, 21));
-    refused_with(&[(22, i32::MIN), (23, 3), (25, i32::MAX)], (6, 21));
-    refused_with(&[(23, 3), (25, 23_284)], (6, 23));
-    refused_with(&[(25, -23_285), (26, 3)], (6, 24));
+    SOUND.refused_with(&[(22, 23_284), (23, 0)], (6, 21));
+    SOUND.refused_with(&[(22, i32::MIN), (23, 3), (25, i32::MAX)], (6, 21));
+    SOUND.refused_with(&[(23, 3), (25, 23_284)], (6, 23));
+    SOUND.refused_with(&[(25, -23_285), (26, 3)], (6, 24));
     // Effects before rows, rows before records.
-    refused_with(&[(25, -23_285), (27, 3)], (6, 24));
-    refused_with(&[(26, 0), (27, 3)], (6, 26));
-    refused_with(&[(27, 3), (35, 0)], (6, 27));
-    refused_with(&[(34, 3), (35, 3)], (6, 34));
-    refused_with(&[(35, 3)], (6, 35));
+    SOUND.refused_with(&[(25, -23_285), (27, 3)], (6, 24));
+    SOUND.refused_with(&[(26, 0), (27, 3)], (6, 26));
+    SOUND.refused_with(&[(27, 3), (35, 0)], (6, 27));
+    SOUND.refused_with(&[(34, 3), (35, 3)], (6, 34));
+    SOUND.refused_with(&[(35, 3)], (6, 35));
 }
 
 /// The limits of rows and records are edition 1's.
@@ -267,21 +259,21 @@ fn refusal_6_in_rows_and_records() {
         (36, &[-1, 3001]),
         (37, &[-1, 3]),
     ];
-    refused_at_each(&SOUND, 6, &faults);
+    SOUND.refused_at_each(6, &faults);
 }
 
 #[test]
 fn refusals_7_and_8_at_the_rows() {
     // Record 2 leads back to itself, on both chains, or to record 1.
-    refused_with(&[(40, 2)], (7, 27));
-    refused_with(&[(40, 1)], (7, 27));
+    SOUND.refused_with(&[(40, 2)], (7, 27));
+    SOUND.refused_with(&[(40, 1)], (7, 27));
     // Both records name effect 1, on row 1's chain alone.
-    refused_with(&[(38, 1)], (8, 27));
-    refused_with(&[(38, 1), (27, 2)], (8, 27));
-    refused_with(&[(38, 1), (40, 1)], (7, 27));
+    SOUND.refused_with(&[(38, 1)], (8, 27));
+    SOUND.refused_with(&[(38, 1), (27, 2)], (8, 27));
+    SOUND.refused_with(&[(38, 1), (40, 1)], (7, 27));
     // 6 before both.
-    refused_with(&[(38, 1), (25, 23_284)], (6, 24));
-    refused_with(&[(40, 1), (23, 0)], (6, 23));
+    SOUND.refused_with(&[(38, 1), (25, 23_284)], (6, 24));
+    SOUND.refused_with(&[(40, 1), (23, 0)], (6, 23));
 }
 
 #[test]
@@ -297,5 +289,5 @@ fn refusal_9_comes_last() {
         (&[(40, 2)], (7, 27)),
         (&[(38, 1)], (8, 27)),
     ];
-    refused_without_a_patch_buffer(&SOUND, &table);
+    SOUND.refused_without_a_patch_buffer(&table);
 }

@@ -5,13 +5,13 @@ mod common;
 
 use common::overload::InLanes;
 use common::streams::{
-    answer_to, header_word_labels, refusal_labels, section_labels, shape_labels, Asked,
-    REFUSALS_IN_EVERY_EDITION,
+    answer_to, header_word_labels, refusal_labels, refusals_due, refusals_of_tables_due,
+    section_labels, shape_labels, shapes_due, state_labels, states_due, texts, Asked,
 };
 use second::account::{Account, Traffic};
 use second::edition::Edition;
 use second::generator::{Case, Stream};
-use second::job::{Job, MAY_BE_LEFT_OUT};
+use second::job::{Effect, Job, MAY_BE_LEFT_OUT};
 use second::lanes::{breakpoint_centres, lane_counts};
 use second::loads::{Live, Question};
 use second::sections::Sections;
@@ -44,7 +44,7 @@ fn place_labels(words: &[i32], number: u64, place: usize) -> Vec<String> {
     match number {
         2 => header_labels(words, place),
         4 => ordinate_labels(words, place),
-        _ => section_labels(words, place, 3),
+        _ => section_labels(words, place),
     }
 }
 
@@ -65,7 +65,7 @@ fn header_labels(words: &[i32], place: usize) -> Vec<String> {
 
 /// The section of the ordinate at fault and those with another fault.
 fn ordinate_labels(words: &[i32], place: usize) -> Vec<String> {
-    let mut labels = section_labels(words, place, 3);
+    let mut labels = section_labels(words, place);
     let sections = Sections::called_for_by(words);
     if sections.line.contains(&place) {
         labels.push(format!("an ordinate of {}", words[place]));
@@ -120,7 +120,6 @@ fn job_labels(job: &Job) -> Vec<String> {
     let [first, second] = lane_counts(job);
     let mut labels = shape_labels(job);
     labels.push(format!("{first} + {second} lanes"));
-    labels.push(format!("kind {} on two sides", job.dynamic_kind));
     let second_width = job.second_width().expect("a second width");
     labels.push(format!("W {}", job.width));
     labels.push(format!("second W {second_width}"));
@@ -155,6 +154,11 @@ fn job_labels(job: &Job) -> Vec<String> {
     for ordinate in [500, 499, -499, -500] {
         reached(in_line(ordinate), &format!("{ordinate} in the line"));
     }
+    let may_be_left_out = |effect: &Effect| effect.mark == MAY_BE_LEFT_OUT;
+    reached(
+        job.effects.iter().any(may_be_left_out),
+        "an effect that may be left out",
+    );
     labels
 }
 
@@ -259,43 +263,8 @@ fn overload_labels(job: &Job, question: Question, traffic: &Traffic) -> Vec<Stri
     labels
 }
 
-fn state_labels(job: &Job, account: &Account) -> Vec<String> {
-    let mut labels = vec![];
-    let may_be_left_out = |effect: &second::job::Effect| effect.mark == MAY_BE_LEFT_OUT;
-    if job.effects.iter().any(may_be_left_out) {
-        labels.push("an effect that may be left out".into());
-    }
-    for (name, state) in [("service", account.service), ("ultimate", account.ultimate)] {
-        if state.present == 0 {
-            labels.push(format!("{name} none"));
-            continue;
-        }
-        for question in Question::BOTH {
-            let governing = state.governing(question);
-            let row = job.rows[governing.row as usize - 1];
-            labels.push(format!("{name} {question:?} of kind {}", row.live_kind));
-            if governing.omitted != 0 {
-                labels.push(format!("{name} {question:?} leaves out effects"));
-            }
-            if job.rows[governing.row as usize..].contains(&row) {
-                labels.push(format!("{name} {question:?} ties"));
-            }
-        }
-    }
-    labels
-}
-
-fn expected_labels() -> BTreeSet<String> {
-    let mut expected = expected_refusals();
-    expected.extend(expected_ordinate_faults());
-    expected.extend(expected_jobs());
-    expected.extend(expected_traffic());
-    expected.extend(expected_states());
-    expected.into_iter().collect()
-}
-
 fn expected_refusals() -> Vec<String> {
-    let mut expected: Vec<String> = [
+    let mut expected = texts(&[
         "3: a word fewer",
         "3: a word more",
         "3: no second section",
@@ -303,16 +272,10 @@ fn expected_refusals() -> Vec<String> {
         "5: piece word 0",
         "5: first piece",
         "5: last piece",
-        "6: first effect",
-        "6: last effect",
-        "6: effect word 0",
         "6: effect word 2",
-        "7: row word 0",
-        "8: row word 0",
-    ]
-    .map(String::from)
-    .to_vec();
-    expected.extend(REFUSALS_IN_EVERY_EDITION.map(String::from));
+    ]);
+    expected.extend(refusals_due());
+    expected.extend(refusals_of_tables_due());
     expected.extend([40, 44, 47, 48, 49, 51].map(|bytes| format!("1: {bytes} bytes")));
     expected.extend([0, 5, -3].map(|edition| format!("1: edition {edition}")));
     expected.extend((1..=12).map(|place| format!("2: word {place}")));
@@ -326,14 +289,11 @@ fn expected_refusals() -> Vec<String> {
         expected.extend((1..=4).map(|kind| format!("2: word {place} of kind {kind}")));
     }
     expected.extend((2..=8).map(|number| format!("{number}: before 9")));
-    for (name, words) in [("row", 4), ("record", 3)] {
-        expected.extend((0..words).map(|word| format!("6: {name} word {word}")));
-    }
     expected
 }
 
 fn expected_ordinate_faults() -> Vec<String> {
-    let mut expected: Vec<String> = [
+    let mut expected = texts(&[
         "4: piece word 0",
         "4: piece word 1",
         "4: first piece",
@@ -342,9 +302,7 @@ fn expected_ordinate_faults() -> Vec<String> {
         "4: line before second transverse",
         "4: transverse before second transverse",
         "4: before 5",
-    ]
-    .map(String::from)
-    .to_vec();
+    ]);
     for side in ["transverse", "second transverse"] {
         expected.extend(["first", "last"].map(|end| format!("4: {end} {side}")));
     }
@@ -353,7 +311,7 @@ fn expected_ordinate_faults() -> Vec<String> {
 }
 
 fn expected_jobs() -> Vec<String> {
-    let mut expected: Vec<String> = [
+    let mut expected = texts(&[
         "g 10",
         "g 50",
         "g divides the second W",
@@ -363,11 +321,8 @@ fn expected_jobs() -> Vec<String> {
         "the same on both sides",
         "mirrored sides",
         "an effect that may be left out",
-    ]
-    .map(String::from)
-    .to_vec();
-    expected.extend([1, 2, 5, 10, 25, 50].map(|h| format!("h {h}")));
-    expected.extend((1..=4).map(|kind| format!("kind {kind} on two sides")));
+    ]);
+    expected.extend(shapes_due(2..=10, 1..=4));
     for first in 1..=5 {
         expected.extend((1..=5).map(|second| format!("{first} + {second} lanes")));
     }
@@ -421,23 +376,16 @@ fn expected_traffic() -> Vec<String> {
     expected
 }
 
-fn expected_states() -> Vec<String> {
-    let mut expected = vec![];
-    for name in ["service", "ultimate"] {
-        expected.push(format!("{name} none"));
-        for question in ["Greatest", "Least"] {
-            expected.extend((0..=2).map(|kind| format!("{name} {question} of kind {kind}")));
-            expected.push(format!("{name} {question} leaves out effects"));
-            expected.push(format!("{name} {question} ties"));
-        }
-    }
-    expected
-}
-
 stream_tests!(Asked {
     stream: Stream::Three,
     labels,
-    expected_labels,
+    expected: &[
+        expected_refusals,
+        expected_ordinate_faults,
+        expected_jobs,
+        expected_traffic,
+        states_due,
+    ],
     seeds: 20_000,
     with_chosen: true,
     order: &[1, 2, 3, 4, 5, 6, 7, 8, 9],

@@ -9,6 +9,7 @@
 
 mod common;
 
+use common::{marked_factor, stored_account, traffic_values, HO};
 use second::account::{Account, Traffic};
 use second::chosen;
 use second::chosen::edition_3::{
@@ -19,45 +20,19 @@ use second::chosen::overload_lanes;
 use second::edition::Edition;
 use second::generator::Stream;
 use second::job::Job;
-use second::solve;
 
 /// The account of a job that is stored.
 #[track_caller]
 fn account(job: &Job) -> Account {
-    let bytes = job.bytes();
-    let mut stored = chosen::cases(Stream::Three);
-    assert!(stored.any(|case| case.job == bytes), "not stored");
-    let answer = solve(&bytes, &mut [0; 1000]);
-    assert_eq!((answer.refusal, answer.place), (0, 0));
-    answer.account
+    stored_account(job, chosen::cases(Stream::Three))
 }
-
-/// Normal greatest and least, overload greatest and least.
-fn values(account: &Account) -> [i64; 4] {
-    [
-        account.normal_greatest.value,
-        account.normal_least.value,
-        account.overload_greatest.value,
-        account.overload_least.value,
-    ]
-}
-
-/// Marks of lanes that have no factor.
-const HO: i64 = -1;
-const NO: i64 = 0;
 
 /// The factors of so many lanes, with `HO` and `NO` for those that have none; the lanes
 /// past them have nothing.
 #[track_caller]
 fn marked_factors(traffic: &Traffic, lanes: usize) -> Vec<i64> {
     assert_eq!(traffic.lanes[lanes..], [Default::default(); 10][lanes..]);
-    let mark = |lane: &second::account::Lane| match (lane.entry, lane.factor) {
-        (0, 0) => NO,
-        (3 | 4, 0) => HO,
-        (1 | 2, 1..) => lane.factor,
-        shown => panic!("{shown:?}"),
-    };
-    traffic.lanes[..lanes].iter().map(mark).collect()
+    traffic.lanes[..lanes].iter().map(marked_factor).collect()
 }
 
 fn entries(traffic: &Traffic, lanes: usize) -> Vec<u32> {
@@ -79,13 +54,13 @@ fn three_lanes_beside_nothing() {
     let nothing = [[0].as_slice(), &[0; 5]];
     for empty in nothing {
         let right = account(&lanes_job(&[650, 950, 350], empty));
-        assert_eq!(values(&right), due);
+        assert_eq!(traffic_values(&right), due);
         assert_eq!(right.normal_greatest.set, 0b111);
         let found = marked_factors(&right.overload_greatest, 3 + empty.len());
         assert_eq!(found[..3], [20, HO, 18]);
 
         let left = account(&lanes_job(empty, &[650, 950, 350]));
-        assert_eq!(values(&left), due);
+        assert_eq!(traffic_values(&left), due);
         assert_eq!(left.normal_greatest.set, 0b111 << empty.len());
         let found = marked_factors(&left.overload_greatest, 3 + empty.len());
         assert_eq!(found[empty.len()..], [20, HO, 18]);
@@ -102,7 +77,11 @@ fn every_deck_beside_nothing() {
         for nothing in [&[0][..], &[0; 5]] {
             for job in [lanes_job(ordinates, nothing), lanes_job(nothing, ordinates)] {
                 let beside = account(&job);
-                assert_eq!(values(&beside), values(&alone), "{ordinates:?}");
+                assert_eq!(
+                    traffic_values(&beside),
+                    traffic_values(&alone),
+                    "{ordinates:?}"
+                );
                 assert_eq!(beside.service, alone.service);
                 assert_eq!(beside.ultimate, alone.ultimate);
             }
@@ -130,7 +109,7 @@ fn every_pair_of_lane_counts() {
                 (level_job(wide, narrow), (other, one)),
             ] {
                 let account = account(&job);
-                assert_eq!(values(&account), due, "{counts:?}");
+                assert_eq!(traffic_values(&account), due, "{counts:?}");
                 let found = (account.first_lanes, account.second_lanes);
                 assert_eq!(found, (counts.0 as u32, counts.1 as u32));
                 let all = (1 << lanes) - 1;
@@ -158,7 +137,7 @@ fn the_sixth_additional_lane_and_later_ones_take_11() {
     let rising = [100, 200, 300, 400, 500, 600, 700, 800, 900, 1000];
     let account = account(&lanes_job(&rising[..5], &rising[5..]));
     let due = [4_174_500, -3_130_875, 7_101_000, -5_325_750];
-    assert_eq!(values(&account), due);
+    assert_eq!(traffic_values(&account), due);
     for traffic in [account.overload_greatest, account.overload_least] {
         let shown = marked_factors(&traffic, 10);
         assert_eq!(shown, [11, 11, 11, 11, 12, 14, 16, 18, 20, HO]);
@@ -191,7 +170,7 @@ fn normal_loads_one_side_alone() {
     ] {
         let account = account(&lanes_job(&first, &second));
         let due = [2_421_900, -1_816_425, 3_710_340, -2_782_755];
-        assert_eq!(values(&account), due);
+        assert_eq!(traffic_values(&account), due);
         assert_eq!(account.normal_greatest.set, set);
         assert_eq!(account.normal_least.set, set);
         assert_eq!(marked_factors(&account.overload_greatest, 4), shown);
@@ -206,7 +185,7 @@ fn normal_loads_one_side_alone() {
 fn each_question_has_its_own_side() {
     let account = account(&lanes_job(&[1000], &[-1000]));
     assert_eq!(
-        values(&account),
+        traffic_values(&account),
         [2_173_500, -2_173_500, 3_375_000, -3_375_000]
     );
     assert_eq!(entries(&account.normal_greatest, 2), [1, 2]);
@@ -221,7 +200,7 @@ fn each_question_has_its_own_side() {
 fn lanes_that_tie_across_the_median() {
     let account = account(&lanes_job(&[500], &[500]));
     assert_eq!(
-        values(&account),
+        traffic_values(&account),
         [1_242_000, -931_500, 1_860_000, -1_395_000]
     );
     assert_eq!(marked_factors(&account.overload_greatest, 2), [HO, 20]);
@@ -286,10 +265,10 @@ fn spans_by_sign_on_both_sides() {
     let short_and_long = account(&job.clone().with_spans(122, 2000));
     // 4174500, -3130875, 7101000 and -5325750, times 1.299 and 1.064.
     let due = [5_422_676, -3_331_251, 9_224_199, -5_666_598];
-    assert_eq!(values(&short_and_long), due);
+    assert_eq!(traffic_values(&short_and_long), due);
     let long_and_short = account(&job.with_spans(2000, 122));
     let due = [4_441_668, -4_067_007, 7_555_464, -6_918_150];
-    assert_eq!(values(&long_and_short), due);
+    assert_eq!(traffic_values(&long_and_short), due);
 }
 
 /// 7 * 1000 * 1000 = 7e6 of uniform load, the pair 1000: HN 8.6e6, HO 1.02e7. Times
@@ -302,16 +281,19 @@ fn the_largest_sums() {
     let (normal, overload) = (4_611_750_000, 6_193_200_000);
     for (ordinate, across) in [(500, 1000), (-500, -1000)] {
         let account = account(&largest_job(ordinate, across, across));
-        assert_eq!(values(&account), [normal, 0, overload, 0]);
+        assert_eq!(traffic_values(&account), [normal, 0, overload, 0]);
     }
     for (ordinate, across) in [(-500, 1000), (500, -1000)] {
         let account = account(&largest_job(ordinate, across, across));
-        assert_eq!(values(&account), [0, -normal, 0, -overload]);
+        assert_eq!(traffic_values(&account), [0, -normal, 0, -overload]);
     }
     let (normal, overload) = (2_515_500_000, 3_845_400_000);
     for (ordinate, across) in [(500, 1000), (500, -1000), (-500, 1000), (-500, -1000)] {
         let account = account(&largest_job(ordinate, across, -across));
-        assert_eq!(values(&account), [normal, -normal, overload, -overload]);
+        assert_eq!(
+            traffic_values(&account),
+            [normal, -normal, overload, -overload]
+        );
     }
 }
 

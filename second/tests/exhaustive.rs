@@ -12,6 +12,7 @@ use second::edition::Edition;
 use second::job::Job;
 use second::loads::{Element, Live, Question, Side};
 use second::solve;
+use std::ops::RangeInclusive;
 
 /// Every set of k-ths of the line.
 fn every_loading(k_ths: i128) -> Vec<Vec<std::ops::Range<i128>>> {
@@ -28,7 +29,7 @@ fn every_loading(k_ths: i128) -> Vec<Vec<std::ops::Range<i128>>> {
 fn every_element(
     job: &Job,
     k: i128,
-    centres: std::ops::RangeInclusive<i128>,
+    centres: RangeInclusive<i128>,
     axle_distance: i128,
 ) -> Vec<LoadedLane> {
     let line_end = job.pieces.len() as i128 * k;
@@ -189,6 +190,21 @@ fn for_each_pair(
     }
 }
 
+/// Of every such arrangement, with centres in cm within these limits of lanes 1 and 2, the
+/// furthest is reported.
+#[track_caller]
+fn every_pair_is_reported(job: &Job, centres: [RangeInclusive<i128>; 2]) {
+    let [left, right] = centres.map(|centres| every_element(job, 1, centres, 1));
+    let mut normal = Furthest::new(Live::Normal);
+    let mut overload = Furthest::new(Live::Overload);
+    for_each_pair(&left, &right, |live, arrangement| match live {
+        Live::Normal => normal.take(job, arrangement),
+        Live::Overload => overload.take(job, arrangement),
+    });
+    normal.is_reported(job);
+    overload.is_reported(job);
+}
+
 /// W 602: two lanes of 301 cm, whose centres run from 150 to 151 and from 451
 /// to 452 cm, all in whole cm, so that k = 1 reaches every limit.
 #[test]
@@ -204,16 +220,7 @@ fn two_lanes() {
         (transverse[10], transverse[11]) = (across[1] / 3, across[1]);
         let mut job = level_job(602, 43, transverse);
         job.pieces = line;
-        let left = every_element(&job, 1, 150..=151, 1);
-        let right = every_element(&job, 1, 451..=452, 1);
-        let mut normal = Furthest::new(Live::Normal);
-        let mut overload = Furthest::new(Live::Overload);
-        for_each_pair(&left, &right, |live, arrangement| match live {
-            Live::Normal => normal.take(&job, arrangement),
-            Live::Overload => overload.take(&job, arrangement),
-        });
-        normal.is_reported(&job);
-        overload.is_reported(&job);
+        every_pair_is_reported(&job, [150..=151, 451..=452]);
     }
 }
 
@@ -230,16 +237,7 @@ fn a_lane_on_each_side() {
         let mut job = spans_job(90, 1800).with_second_carriageway(303, ordinates(1).collect());
         (job.width, job.spacing, job.pieces) = (302, 38, line);
         job.transverse = ordinates(0).collect();
-        let left = every_element(&job, 1, 150..=152, 1);
-        let right = every_element(&job, 1, 150..=153, 1);
-        let mut normal = Furthest::new(Live::Normal);
-        let mut overload = Furthest::new(Live::Overload);
-        for_each_pair(&left, &right, |live, arrangement| match live {
-            Live::Normal => normal.take(&job, arrangement),
-            Live::Overload => overload.take(&job, arrangement),
-        });
-        normal.is_reported(&job);
-        overload.is_reported(&job);
+        every_pair_is_reported(&job, [150..=152, 150..=153]);
     }
 }
 

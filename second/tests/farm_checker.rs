@@ -3,9 +3,12 @@
 
 mod common;
 
-use common::call::{refuses, takes, Call};
+use common::call::{
+    load, refuses, refuses_accounts, refuses_part, takes_accounts, Call, Part, SERVICE_GREATEST,
+    SERVICE_LEAST, ULTIMATE_GREATEST, ULTIMATE_LEAST,
+};
 use common::{definition, pieces, small_farm_job};
-use second::account::Lane;
+use second::account::Governing;
 use second::farm_job::farm_job;
 use second::generator::{case, Stream};
 
@@ -28,63 +31,46 @@ fn governed_by_3a() -> Call {
     Call::of(&small_farm_job([1000, 0, 0, 0, 0, 0, 0, 0, 0, 5000, 0]))
 }
 
+/// The call with each of these k is refused for a reason that has the words beside it.
+#[track_caller]
+fn refuses_k(call: &Call, part: Part<Governing>, table: &[(u32, &str)]) {
+    for &(k, reason) in table {
+        refuses_part(call, part, reason, |governing| governing.k = k);
+    }
+}
+
 #[test]
 fn another_k_is_refused() {
     let call = governed_by_3a();
     let ultimate = call.answer.account.ultimate;
     assert_eq!((ultimate.greatest.row, ultimate.greatest.k), (16, 1300));
     assert_eq!((ultimate.least.row, ultimate.least.k), (16, 800));
-    refuses(
+    let no_k = [(0, "no k of 0"), (1000, "no k of 1000"), (13, "no k of 13")];
+    refuses_k(&call, ULTIMATE_GREATEST, &no_k);
+    refuses_k(&call, ULTIMATE_GREATEST, &[(800, "what it comes to")]);
+    refuses_k(&call, ULTIMATE_LEAST, &[(1300, "what it comes to")]);
+    // The value that the other k gives is refused as well.
+    refuses_accounts(
         &call,
-        &[
-            ("what it comes to", |call| {
-                call.answer.account.ultimate.greatest.k = 800
-            }),
-            ("what it comes to", |call| {
-                call.answer.account.ultimate.least.k = 1300
-            }),
-            ("no k of 0", |call| {
-                call.answer.account.ultimate.greatest.k = 0
-            }),
-            ("no k of 1000", |call| {
-                call.answer.account.ultimate.greatest.k = 1000
-            }),
-            ("no k of 13", |call| {
-                call.answer.account.ultimate.greatest.k = 13
-            }),
-            // The value that the other k gives is refused as well.
-            ("ultimate Greatest is", |call| {
-                let greatest = &mut call.answer.account.ultimate.greatest;
-                (greatest.value, greatest.k) = (5_800_000_000, 800);
-            }),
-        ],
+        &[("ultimate Greatest is", |account| {
+            let greatest = &mut account.ultimate.greatest;
+            (greatest.value, greatest.k) = (5_800_000_000, 800);
+        })],
     );
 }
 
 #[test]
 fn k_is_refused_where_another_row_governs() {
     let call = Call::of(&farm_job());
+    assert_eq!(call.check(), Ok(()));
     let account = call.answer.account;
     assert_eq!(account.ultimate.greatest.row, 11);
     // Service's own 3A has no k.
     assert_eq!(account.service.least.row, 6);
-    refuses(
-        &call,
-        &[
-            ("no k of 1300", |call| {
-                call.answer.account.ultimate.greatest.k = 1300
-            }),
-            ("no k of 800", |call| {
-                call.answer.account.ultimate.greatest.k = 800
-            }),
-            ("no k of 1300", |call| {
-                call.answer.account.service.least.k = 1300
-            }),
-            ("no k of 800", |call| {
-                call.answer.account.service.greatest.k = 800
-            }),
-        ],
-    );
+    let no_k = [(1300, "no k of 1300"), (800, "no k of 800")];
+    for part in [ULTIMATE_GREATEST, SERVICE_LEAST, SERVICE_GREATEST] {
+        refuses_k(&call, part, &no_k);
+    }
 }
 
 /// DL 0: 3A's greatest is 5000 with 1.3 and with 0.8. Every least is 0, so row
@@ -92,27 +78,21 @@ fn k_is_refused_where_another_row_governs() {
 #[test]
 fn either_k_passes_where_both_give_the_value() {
     let call = Call::of(&small_farm_job([0, 0, 0, 0, 0, 0, 0, 0, 0, 5000, 0]));
-    takes(
+    takes_accounts(
         &call,
         &[
-            ("1.3", |call| call.answer.account.ultimate.greatest.k = 1300),
-            ("0.8", |call| call.answer.account.ultimate.greatest.k = 800),
+            ("1.3", |account| account.ultimate.greatest.k = 1300),
+            ("0.8", |account| account.ultimate.greatest.k = 800),
         ],
     );
-    refuses(
+    refuses_k(&call, ULTIMATE_GREATEST, &[(0, "no k of 0")]);
+    refuses_k(&call, ULTIMATE_LEAST, &[(1300, "no k of 1300")]);
+    refuses_accounts(
         &call,
-        &[
-            ("no k of 0", |call| {
-                call.answer.account.ultimate.greatest.k = 0
-            }),
-            ("no k of 1300", |call| {
-                call.answer.account.ultimate.least.k = 1300
-            }),
-            ("row is", |call| {
-                let least = &mut call.answer.account.ultimate.least;
-                (least.row, least.k) = (16, 800);
-            }),
-        ],
+        &[("row is", |account| {
+            let least = &mut account.ultimate.least;
+            (least.row, least.k) = (16, 800);
+        })],
     );
 }
 
@@ -120,44 +100,32 @@ fn either_k_passes_where_both_give_the_value() {
 /// the line, and its pieces are none.
 #[test]
 fn a_loaded_overload_is_refused() {
-    refuses(
+    refuses_accounts(
         &governed_by_3a(),
         &[
-            ("a lane is loaded", |call| {
-                let overload = &mut call.answer.account.overload_greatest;
-                overload.set = 1;
-                overload.lanes[0] = Lane {
-                    entry: 2,
-                    centre: 150,
-                    factor: 0,
-                };
+            ("a lane is loaded", |account| {
+                load(&mut account.overload_greatest, 0, (2, 150, 0))
             }),
-            ("a lane is loaded", |call| {
-                let overload = &mut call.answer.account.overload_least;
-                overload.set = 1;
-                overload.lanes[0] = Lane {
-                    entry: 4,
-                    centre: 150,
-                    factor: 0,
-                };
+            ("a lane is loaded", |account| {
+                load(&mut account.overload_least, 0, (4, 150, 0))
             }),
-            ("does not agree with the lane set", |call| {
-                call.answer.account.overload_least.set = 1
+            ("does not agree with the lane set", |account| {
+                account.overload_least.set = 1
             }),
-            ("it is unloaded but has a centre", |call| {
-                call.answer.account.overload_greatest.lanes[0].centre = 150
+            ("it is unloaded but has a centre", |account| {
+                account.overload_greatest.lanes[0].centre = 150
             }),
-            ("it is unloaded but has a factor", |call| {
-                call.answer.account.overload_greatest.lanes[0].factor = 20
+            ("it is unloaded but has a factor", |account| {
+                account.overload_greatest.lanes[0].factor = 20
             }),
-            ("has a factor but is not additional", |call| {
-                call.answer.account.normal_greatest.lanes[0].factor = 17
+            ("has a factor but is not additional", |account| {
+                account.normal_greatest.lanes[0].factor = 17
             }),
-            ("Overload Greatest is", |call| {
-                call.answer.account.overload_greatest.value = 1
+            ("Overload Greatest is", |account| {
+                account.overload_greatest.value = 1
             }),
-            ("Overload Least is", |call| {
-                call.answer.account.overload_least.value = -1
+            ("Overload Least is", |account| {
+                account.overload_least.value = -1
             }),
         ],
     );
@@ -167,20 +135,20 @@ fn a_loaded_overload_is_refused() {
 /// 1380000.
 #[test]
 fn ho_and_the_unreduced_hn_are_refused() {
-    refuses(
+    refuses_accounts(
         &governed_by_3a(),
         &[
-            ("an HO element in normal", |call| {
-                call.answer.account.normal_greatest.lanes[0].entry = 3
+            ("an HO element in normal", |account| {
+                account.normal_greatest.lanes[0].entry = 3
             }),
-            ("Normal Greatest is 1380000", |call| {
-                call.answer.account.normal_greatest.value = 1_380_000
+            ("Normal Greatest is 1380000", |account| {
+                account.normal_greatest.value = 1_380_000
             }),
-            ("Normal Greatest is 1989000", |call| {
-                call.answer.account.normal_greatest.value = 1_989_000
+            ("Normal Greatest is 1989000", |account| {
+                account.normal_greatest.value = 1_989_000
             }),
-            ("past the last lane", |call| {
-                let normal = &mut call.answer.account.normal_greatest;
+            ("past the last lane", |account| {
+                let normal = &mut account.normal_greatest;
                 normal.set = 2;
                 normal.lanes.swap(0, 1);
             }),
@@ -193,10 +161,10 @@ fn ho_and_the_unreduced_hn_are_refused() {
 fn a_value_rounded_twice_is_refused() {
     let mut job = small_farm_job([0; 11]);
     (job.pieces, job.transverse) = (pieces(&[(1, 1)]), vec![1; 7]);
-    refuses(
+    refuses_accounts(
         &Call::of(&job),
-        &[("148, 147 is due", |call| {
-            call.answer.account.normal_greatest.value = 148
+        &[("148, 147 is due", |account| {
+            account.normal_greatest.value = 148
         })],
     );
 }
@@ -209,34 +177,34 @@ fn omissions_keep_to_the_row() {
     let call = Call::of(&small_farm_job(effects));
     assert_eq!(call.answer.account.service.least.row, 5);
     assert_eq!(call.answer.account.ultimate.greatest.row, 11);
-    refuses(
+    refuses_accounts(
         &call,
         &[
-            ("not on its chain", |call| {
-                call.answer.account.service.least.omitted |= 1 << 2
+            ("not on its chain", |account| {
+                account.service.least.omitted |= 1 << 2
             }),
-            ("not on its chain", |call| {
-                call.answer.account.ultimate.greatest.omitted |= 1 << 5
+            ("not on its chain", |account| {
+                account.ultimate.greatest.omitted |= 1 << 5
             }),
-            ("effect 1 may not be left out", |call| {
-                call.answer.account.service.least.omitted |= 1
+            ("effect 1 may not be left out", |account| {
+                account.service.least.omitted |= 1
             }),
-            ("what it comes to", |call| {
-                call.answer.account.service.least.omitted &= !(1 << 3)
+            ("what it comes to", |account| {
+                account.service.least.omitted &= !(1 << 3)
             }),
-            ("what it comes to", |call| {
-                call.answer.account.ultimate.greatest.traffic_left_out = 1
+            ("what it comes to", |account| {
+                account.ultimate.greatest.traffic_left_out = 1
             }),
-            ("not on its chain", |call| {
-                call.answer.account.ultimate.least.omitted |= 1 << 11
+            ("not on its chain", |account| {
+                account.ultimate.least.omitted |= 1 << 11
             }),
         ],
     );
     // The least traffic is 0: it counts or is left out.
-    takes(
+    takes_accounts(
         &call,
-        &[("left out", |call| {
-            call.answer.account.service.least.traffic_left_out = 1
+        &[("left out", |account| {
+            account.service.least.traffic_left_out = 1
         })],
     );
 }
@@ -244,10 +212,10 @@ fn omissions_keep_to_the_row() {
 /// Row 16 has no traffic to leave out.
 #[test]
 fn a_row_without_traffic_leaves_none_out() {
-    refuses(
+    refuses_accounts(
         &governed_by_3a(),
-        &[("no traffic", |call| {
-            call.answer.account.ultimate.greatest.traffic_left_out = 1
+        &[("no traffic", |account| {
+            account.ultimate.greatest.traffic_left_out = 1
         })],
     );
 }

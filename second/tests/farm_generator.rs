@@ -4,7 +4,8 @@
 mod common;
 
 use common::streams::{
-    answer_to, header_word_labels, refusal_labels, shape_labels, Asked, REFUSALS_IN_EVERY_EDITION,
+    answer_to, header_word_labels, refusal_labels, refusals_due, shape_labels, shapes_due, texts,
+    Asked,
 };
 use second::account::{Account, Governing};
 use second::combination::Part;
@@ -205,24 +206,14 @@ fn unless_it_holds_back(job: &Job, part: &Part, question: Question) -> i64 {
     }
 }
 
-fn expected_labels() -> BTreeSet<String> {
-    let mut expected = expected_refusals();
-    expected.extend(expected_faults_of_effects());
-    expected.extend(expected_jobs());
-    expected.extend(expected_outcomes());
-    expected.into_iter().collect()
-}
-
 fn expected_refusals() -> Vec<String> {
-    let mut expected: Vec<String> = [
+    let mut expected = texts(&[
         "2: before 11",
         "4: a piece",
         "4: a transverse ordinate",
         "5: a piece",
-    ]
-    .map(String::from)
-    .to_vec();
-    expected.extend(REFUSALS_IN_EVERY_EDITION.map(String::from));
+    ]);
+    expected.extend(refusals_due());
     expected.extend((40..44).map(|bytes| format!("1: {bytes} bytes")));
     expected.extend([0, 5, -4].map(|edition| format!("1: edition {edition}")));
     expected.extend((1..=10).map(|place| format!("2: word {place}")));
@@ -266,18 +257,15 @@ fn expected_faults_of_effects() -> Vec<String> {
 }
 
 fn expected_jobs() -> Vec<String> {
-    let mut expected: Vec<String> = [
+    let mut expected = texts(&[
         "zero line",
         "line above 0",
         "line below 0",
         "line of both signs",
         "longest line far above 0",
         "longest line far below 0",
-    ]
-    .map(String::from)
-    .to_vec();
-    expected.extend([1, 2, 5, 10, 25, 50].map(|h| format!("h {h}")));
-    expected.extend([1, 2, 3].map(|kind| format!("dynamic kind {kind}")));
+    ]);
+    expected.extend(shapes_due(1..=1, 1..=3));
     for (barriers, ends) in [(1, [300, 370]), (2, [300, 370]), (3, [370, 430])] {
         expected.extend(ends.map(|width| format!("W {width}, barriers {barriers}")));
         expected.push(format!("W between, barriers {barriers}"));
@@ -310,7 +298,12 @@ fn expected_outcomes() -> Vec<String> {
 stream_tests!(Asked {
     stream: Stream::Four,
     labels,
-    expected_labels,
+    expected: &[
+        expected_refusals,
+        expected_faults_of_effects,
+        expected_jobs,
+        expected_outcomes,
+    ],
     seeds: 20_000,
     with_chosen: true,
     order: &[1, 2, 11, 3, 4, 5, 6, 9],

@@ -4,19 +4,12 @@
 mod common;
 
 use common::farm_tables::{FIRST_ULTIMATE_ROW, K, LIVE, ROWS};
-use common::{pieces, small_farm_job};
-use second::account::{Account, Governing, Traffic};
+use common::{account, pieces, small_farm_job};
+use second::account::{Governing, Traffic};
 use second::farm;
 use second::farm_job::farm_job;
-use second::job::Job;
 use second::loads::Live;
 use second::{report, solve};
-
-fn account(job: &Job) -> Account {
-    let answer = solve(&job.bytes(), &mut vec![0; job.pieces.len()]);
-    assert_eq!((answer.refusal, answer.place), (0, 0));
-    answer.account
-}
 
 /// A row's value with what it leaves out, as a bit an effect, and its k.
 fn governing(value: i64, row: u32, omitted: u32, k: u32) -> Governing {

@@ -3,7 +3,10 @@
 
 mod common;
 
-use common::streams::{answer_to, section_labels, shape_labels, Asked};
+use common::streams::{
+    answer_to, refusals_of_tables_due, section_labels, shape_labels, shapes_due, state_labels,
+    states_due, texts, Asked,
+};
 use second::account::Account;
 use second::edition::Edition;
 use second::generator::{Case, Stream};
@@ -15,6 +18,12 @@ use second::sections::Sections;
 use second::words::words_of;
 use second::Answer;
 use std::collections::BTreeSet;
+
+/// Where the number of lanes changes.
+const WIDTHS: [i64; 10] = [300, 599, 600, 969, 970, 1339, 1340, 1709, 1710, 2079];
+
+/// Where the fill stops counting, in cm.
+const FILLS: [i64; 3] = [99, 100, 101];
 
 /// What is worth reaching about a case.
 fn labels(case: &Case) -> Vec<String> {
@@ -59,7 +68,7 @@ fn refusal_labels(case: &Case, answer: &Answer) -> Vec<String> {
             _ => "some bytes short",
         }),
         _ => {
-            for label in section_labels(&words, place, 2) {
+            for label in section_labels(&words, place) {
                 reached(&label);
             }
             let rows = Sections::called_for_by(&words).rows;
@@ -77,10 +86,10 @@ fn job_labels(job: &Job) -> Vec<String> {
     if job.pieces.len() as i64 * job.piece_length == 1000 {
         labels.push(format!("longest line of h {}", job.piece_length));
     }
-    if [300, 599, 600, 969, 970, 1339, 1340, 1709, 1710, 2079].contains(&job.width) {
+    if WIDTHS.contains(&job.width) {
         labels.push(format!("W {}", job.width));
     }
-    if job.dynamic_kind == 3 && (99..=101).contains(&job.dynamic_value) {
+    if job.dynamic_kind == 3 && FILLS.contains(&job.dynamic_value) {
         labels.push(format!("fill {}", job.dynamic_value));
     }
     let mut reached = |holds: bool, label: &str| {
@@ -244,77 +253,47 @@ fn outcome_labels(job: &Job, account: &Account) -> Vec<String> {
             labels.push(format!("{name} from the right only"));
         }
     }
-    for (name, state) in [("service", account.service), ("ultimate", account.ultimate)] {
-        if state.present == 0 {
-            labels.push(format!("{name} none"));
-            continue;
-        }
-        for (question, governing) in [("greatest", state.greatest), ("least", state.least)] {
-            let row = job.rows[governing.row as usize - 1];
-            labels.push(format!("{name} {question} of kind {}", row.live_kind));
-            if governing.omitted != 0 {
-                labels.push(format!("{name} {question} leaves out effects"));
-            }
-            let later = &job.rows[governing.row as usize..];
-            if later.contains(&row) {
-                labels.push(format!("{name} {question} ties"));
-            }
-            if governing.row > 1 && job.rows[0].state == row.state {
-                labels.push(format!("{name} {question} past its first row"));
-            }
-        }
-    }
+    labels.extend(state_labels(job, account));
     labels
 }
 
-fn expected_labels() -> BTreeSet<String> {
-    let mut expected: BTreeSet<String> = [
-        "a longer patch buffer",
-        "the largest overload greatest",
-        "the largest overload least",
+fn expected_refusals() -> Vec<String> {
+    let mut expected = texts(&[
         "1: no bytes",
         "1: short",
         "1: uneven",
         "1: edition",
         "2: line too long",
-        "2: value of kind 1",
-        "2: value of kind 2",
-        "2: value of kind 3",
         "3: too few",
         "3: too many",
         "4: piece word 0",
         "4: piece word 1",
-        "4: first piece",
-        "4: last piece",
         "4: first transverse",
         "4: last transverse",
-        "5: first piece",
-        "5: last piece",
-        "6: effect word 0",
         "6: effect word 1",
-        "6: first effect",
-        "6: last effect",
-        "6: row word 0",
-        "6: row word 1",
-        "6: row word 2",
-        "6: row word 3",
         "6: live factor for kind 0",
-        "6: first row",
-        "6: last row",
-        "6: record word 0",
-        "6: record word 1",
-        "6: record word 2",
-        "6: first record",
-        "6: last record",
-        "7: row word 0",
-        "7: first row",
-        "7: last row",
-        "8: row word 0",
-        "8: first row",
-        "8: last row",
         "9: no patch bytes",
         "9: one byte short",
         "9: some bytes short",
+    ]);
+    expected.extend((1..=9).map(|place| format!("2: word {place}")));
+    expected.extend((1..=3).map(|kind| format!("2: value of kind {kind}")));
+    for (number, entry) in [
+        (4, "piece"),
+        (5, "piece"),
+        (6, "row"),
+        (6, "record"),
+        (7, "row"),
+        (8, "row"),
+    ] {
+        expected.extend(["first", "last"].map(|end| format!("{number}: {end} {entry}")));
+    }
+    expected
+}
+
+fn expected_lines() -> Vec<String> {
+    let mut expected = texts(&[
+        "a longer patch buffer",
         "one piece",
         "g 10",
         "g 50",
@@ -332,6 +311,16 @@ fn expected_labels() -> BTreeSet<String> {
         "transverse 1000",
         "transverse -1000",
         "transverse line of two signs",
+    ]);
+    expected.extend([1, 2, 5, 10, 25, 50].map(|h| format!("longest line of h {h}")));
+    expected.extend(WIDTHS.map(|width| format!("W {width}")));
+    expected.extend(FILLS.map(|fill| format!("fill {fill}")));
+    expected.extend(shapes_due(1..=5, 1..=3));
+    expected
+}
+
+fn expected_tables() -> Vec<String> {
+    texts(&[
         "no effects",
         "16 effects",
         "effect 0",
@@ -352,65 +341,40 @@ fn expected_labels() -> BTreeSet<String> {
         "shared tail",
         "unused record",
         "unused record in a circle",
-        "fill 99",
-        "fill 100",
-        "fill 101",
-    ]
-    .map(String::from)
-    .into();
-    let mut due = |label: String| {
-        expected.insert(label);
-    };
-    for place in 1..=9 {
-        due(format!("2: word {place}"));
-    }
-    for h in [1, 2, 5, 10, 25, 50] {
-        due(format!("h {h}"));
-        due(format!("longest line of h {h}"));
-    }
-    for n in 1..=5 {
-        due(format!("{n} lanes"));
-    }
-    for kind in 1..=3 {
-        due(format!("dynamic kind {kind}"));
-    }
-    for width in [300, 599, 600, 969, 970, 1339, 1340, 1709, 1710, 2079] {
-        due(format!("W {width}"));
-    }
+    ])
+}
+
+fn expected_traffic() -> Vec<String> {
+    let mut expected = vec![];
     for question in ["greatest", "least"] {
-        for lanes in 0..=5 {
-            due(format!("normal {question} on {lanes} lanes"));
-        }
-        for lanes in 1..=5 {
-            due(format!("overload {question} on {lanes} lanes"));
-            due(format!("overload {question}: HO in lane {lanes}"));
-        }
-        for entry in 0..=2 {
-            due(format!("normal {question}: entry {entry}"));
-        }
-        for entry in 0..=4 {
-            due(format!("overload {question}: entry {entry}"));
-        }
+        let normal = |label: String| format!("normal {question}{label}");
+        let overload = |label: String| format!("overload {question}{label}");
+        expected.extend((0..=5).map(|lanes| normal(format!(" on {lanes} lanes"))));
+        expected.extend((0..=2).map(|entry| normal(format!(": entry {entry}"))));
+        expected.extend((1..=5).map(|lanes| overload(format!(" on {lanes} lanes"))));
+        expected.extend((1..=5).map(|lane| overload(format!(": HO in lane {lane}"))));
+        expected.extend((0..=4).map(|entry| overload(format!(": entry {entry}"))));
         for live in ["normal", "overload"] {
-            due(format!("{live} {question} spares a lane"));
+            expected.push(format!("{live} {question} spares a lane"));
         }
-        for state in ["service", "ultimate"] {
-            due(format!("{state} none"));
-            for kind in 0..=2 {
-                due(format!("{state} {question} of kind {kind}"));
-            }
-            due(format!("{state} {question} leaves out effects"));
-            due(format!("{state} {question} ties"));
-            due(format!("{state} {question} past its first row"));
-        }
+        expected.push(format!("the largest overload {question}"));
     }
+    expected
+}
+
+fn expected_stands() -> Vec<String> {
+    let mut expected = vec![];
     for direction in ["raising", "lowering"] {
-        due(format!("{direction} side 0"));
-        due(format!("{direction} side 1"));
-        due(format!("{direction} with the left axle off the line"));
-        due(format!("{direction} with the right axle off the line"));
-        due(format!("{direction} from the left only"));
-        due(format!("{direction} from the right only"));
+        for label in [
+            "side 0",
+            "side 1",
+            "with the left axle off the line",
+            "with the right axle off the line",
+            "from the left only",
+            "from the right only",
+        ] {
+            expected.push(format!("{direction} {label}"));
+        }
     }
     expected
 }
@@ -418,7 +382,15 @@ fn expected_labels() -> BTreeSet<String> {
 stream_tests!(Asked {
     stream: Stream::One,
     labels,
-    expected_labels,
+    expected: &[
+        expected_refusals,
+        refusals_of_tables_due,
+        expected_lines,
+        expected_tables,
+        expected_traffic,
+        expected_stands,
+        states_due,
+    ],
     seeds: 8_000,
     with_chosen: false,
     order: &[1, 2, 3, 4, 5, 6, 7, 8, 9],

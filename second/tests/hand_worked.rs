@@ -2,25 +2,10 @@
 
 mod common;
 
-use common::{five_lanes, level_job, pieces, two_lane_job};
+use common::{account, five_lanes, level_job, pieces, traffic_values, two_lane_job};
 use second::account::{Governing, Stand, State, Traffic};
 use second::job::Job;
-use second::{report, solve, Account};
-
-fn account(job: &Job) -> Account {
-    let answer = solve(&job.bytes(), &mut [0; 1000]);
-    assert_eq!((answer.refusal, answer.place), (0, 0));
-    answer.account
-}
-
-fn values(account: &Account) -> [i64; 4] {
-    [
-        account.normal_greatest.value,
-        account.normal_least.value,
-        account.overload_greatest.value,
-        account.overload_least.value,
-    ]
-}
+use second::{report, solve};
 
 fn entries(traffic: &Traffic) -> [u32; 5] {
     five_lanes(traffic).map(|lane| lane.entry)
@@ -53,7 +38,10 @@ fn centres(traffic: &Traffic) -> [i64; 5] {
 #[test]
 fn two_lanes_and_a_line_of_two_signs() {
     let account = account(&two_lane_job());
-    assert_eq!(values(&account), [10319400, -7371000, 19866000, -13230000]);
+    assert_eq!(
+        traffic_values(&account),
+        [10319400, -7371000, 19866000, -13230000]
+    );
     assert_eq!(account.raising.station, -1);
     assert_eq!(account.lowering.station, 3);
     let placements = [
@@ -140,14 +128,14 @@ fn both_axles_take_the_same_side() {
         side: 1,
     };
     assert_eq!(account.raising, right_of_0);
-    assert_eq!(values(&account), [6576, 0, 11201, 0]);
+    assert_eq!(traffic_values(&account), [6576, 0, 11201, 0]);
 }
 
 /// With the transverse line turned over, least is rounded down, away from 0.
 #[test]
 fn least_is_rounded_down() {
     let account = account(&jumping_job(-5, -2));
-    assert_eq!(values(&account), [0, -6576, 0, -11201]);
+    assert_eq!(traffic_values(&account), [0, -6576, 0, -11201]);
     assert_eq!(entries(&account.normal_least), [1, 0, 0, 0, 0]);
     assert_eq!(centres(&account.normal_least), [150, 0, 0, 0, 0]);
 }
@@ -156,7 +144,7 @@ fn least_is_rounded_down() {
 #[test]
 fn an_overload_of_0_has_one_ho_lane() {
     let account = account(&level_job(2079, 50, vec![0; 43]));
-    assert_eq!(values(&account), [0; 4]);
+    assert_eq!(traffic_values(&account), [0; 4]);
     for traffic in [account.normal_greatest, account.normal_least] {
         assert_eq!((traffic.set, entries(&traffic)), (0, [0; 5]));
     }
@@ -195,7 +183,7 @@ fn two_lanes_only_where_0_9_of_both_is_more() {
 #[test]
 fn all_five_lanes() {
     let account = account(&level_job(2000, 50, vec![1000; 41]));
-    assert_eq!(values(&account), [4_140_000, 0, 7_032_000, 0]);
+    assert_eq!(traffic_values(&account), [4_140_000, 0, 7_032_000, 0]);
     assert_eq!(account.normal_greatest.set, 0b11111);
     assert_eq!(account.overload_greatest.set, 0b11111);
 }
@@ -318,7 +306,10 @@ fn the_largest_values() {
     let row = &mut job.rows[0];
     (row.state, row.live_kind, row.live_factor, row.first) = (2, 2, 3000, 1);
     let account = account(&job);
-    assert_eq!(values(&account), [25_155_000_000, 0, 38_454_000_000, 0]);
+    assert_eq!(
+        traffic_values(&account),
+        [25_155_000_000, 0, 38_454_000_000, 0]
+    );
     let greatest = account.ultimate.greatest;
     assert_eq!(greatest.value, 48_000_000_000_000_000 + 115_362_000_000_000);
     assert_eq!(account.ultimate.least.value, 48_000_000_000_000_000);

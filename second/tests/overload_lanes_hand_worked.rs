@@ -11,8 +11,8 @@
 
 mod common;
 
-use common::five_lanes;
 use common::overload::old_overload;
+use common::{five_lanes, marked_factor, stored_account, HO, NO};
 use second::account::Traffic;
 use second::chosen::overload_lanes::{
     cases, lanes_job, largest_job, level_job, orders, uneven_line_job, FRACTIONAL, IN_EVERY_ORDER,
@@ -21,30 +21,17 @@ use second::chosen::overload_lanes::{
 use second::edition::Edition;
 use second::job::Job;
 use second::loads::Question;
-use second::{solve, Account};
-
-/// What a lane has in place of a factor where it is the HO lane, and where it is
-/// unloaded.
-const HO: i64 = -1;
-const NO: i64 = 0;
+use second::Account;
 
 /// The account of a job that is stored.
+#[track_caller]
 fn account(job: &Job) -> Account {
-    let bytes = job.bytes();
-    assert!(cases().any(|case| case.job == bytes), "not stored");
-    let answer = solve(&bytes, &mut [0; 1000]);
-    assert_eq!((answer.refusal, answer.place), (0, 0));
-    answer.account
+    stored_account(job, cases())
 }
 
 /// The lanes' factors, with `HO` and `NO` for lanes that have none.
 fn marked_factors(traffic: &Traffic) -> [i64; 5] {
-    five_lanes(traffic).map(|lane| match (lane.entry, lane.factor) {
-        (0, 0) => NO,
-        (3 | 4, 0) => HO,
-        (1 | 2, 1..) => lane.factor,
-        shown => panic!("{shown:?}"),
-    })
+    five_lanes(traffic).map(|lane| marked_factor(&lane))
 }
 
 /// What is due for overload in one question.

@@ -46,10 +46,31 @@ service greatest 299451781250 row 1 least 80000000000 row 1
 ultimate greatest 491971875000 row 2 least 96000000000 row 2
 ";
 
-fn job_a() -> Vec<u8> {
-    let output = second(&["job-a"], Stdio::null());
+/// The bytes that a command writes.
+#[track_caller]
+fn written_by(command: &str) -> Vec<u8> {
+    let output = second(&[command], Stdio::null());
     assert_eq!(output.status.code(), Some(0));
     output.stdout
+}
+
+fn job_a() -> Vec<u8> {
+    written_by("job-a")
+}
+
+/// The job that a command writes prints these lines and is not beaten; one word fewer
+/// than its header is no job, and the header alone calls for so many words.
+#[track_caller]
+fn prints_its_lines(command: &str, lines: &str, header_words: usize, due: usize) {
+    let job = written_by(command);
+    let on = |what: &str, bytes: &[u8]| second_on(&format!("{command}-{what}"), bytes);
+    prints(&on("whole", &job), lines);
+    let header = &job[..4 * header_words];
+    let front = on("front", &header[..header.len() - 4]);
+    prints(&front, "refused 1 at 0\n");
+    prints(&on("header", header), &format!("refused 3 at {due}\n"));
+    let beat = command_on(&["beat", "1", "500"], &format!("{command}-beat"), &job);
+    prints(&beat, "not beaten in 500 tries\n");
 }
 
 const FARM_JOB_LINES: &str = "\
@@ -78,17 +99,13 @@ ultimate least 11587500000 row 16, left out 48, traffic counts, k 800
 ";
 
 /// The figures are worked out in farm_hand_worked.rs. Left out are SG (8) from
-/// the greatest values, ST and TP (16 and 32) from the least.
+/// the greatest values, ST and TP (16 and 32) from the least. 11 + 20 + 9 + 22 = 62 words
+/// are due.
 #[test]
 fn the_farm_job_prints_its_lines_and_its_page() {
-    let output = second(&["farm-job"], Stdio::null());
-    assert_eq!(output.status.code(), Some(0));
-    let job = output.stdout;
-    prints(&second_on("farm-job", &job), FARM_JOB_LINES);
-    let page = command_on(&["account"], "farm-job-page", &job);
+    prints_its_lines("farm-job", FARM_JOB_LINES, 11, 62);
+    let page = command_on(&["account"], "farm-job-page", &written_by("farm-job"));
     prints(&page, FARM_JOB_PAGE);
-    let beat = command_on(&["beat", "1", "500"], "farm-job-beat", &job);
-    prints(&beat, "not beaten in 500 tries\n");
 }
 
 const ARCH_JOB_LINES: &str = "\
@@ -102,14 +119,7 @@ ultimate greatest 7414923629640 row 2 least -2330865309000 row 3
 /// and 12 + 40 + 19 + 12 + 12 + 18 = 113 are due.
 #[test]
 fn the_arch_job_prints_its_lines() {
-    let output = second(&["arch-job"], Stdio::null());
-    assert_eq!(output.status.code(), Some(0));
-    let job = output.stdout;
-    prints(&second_on("arch-job", &job), ARCH_JOB_LINES);
-    prints(&second_on("arch-front", &job[..44]), "refused 1 at 0\n");
-    prints(&second_on("arch-header", &job[..48]), "refused 3 at 113\n");
-    let beat = command_on(&["beat", "1", "500"], "arch-job-beat", &job);
-    prints(&beat, "not beaten in 500 tries\n");
+    prints_its_lines("arch-job", ARCH_JOB_LINES, 12, 113);
 }
 
 const DECK_JOB_LINES: &str = "\
@@ -123,13 +133,7 @@ ultimate greatest 757724301000 row 2 least 109734018000 row 2
 /// due.
 #[test]
 fn the_deck_job_prints_its_lines() {
-    let output = second(&["deck-job"], Stdio::null());
-    assert_eq!(output.status.code(), Some(0));
-    let job = output.stdout;
-    prints(&second_on("deck-job", &job), DECK_JOB_LINES);
-    prints(&second_on("deck-header", &job[..40]), "refused 3 at 115\n");
-    let beat = command_on(&["beat", "1", "500"], "deck-job-beat", &job);
-    prints(&beat, "not beaten in 500 tries\n");
+    prints_its_lines("deck-job", DECK_JOB_LINES, 10, 115);
 }
 
 const MOTORWAY_JOB_LINES: &str = "\
@@ -143,15 +147,7 @@ ultimate greatest 421516390500 row 2 least 121138333500 row 2
 /// 20 + 6 + 8 + 12 = 116 are due.
 #[test]
 fn the_motorway_job_prints_its_lines() {
-    let output = second(&["motorway-job"], Stdio::null());
-    assert_eq!(output.status.code(), Some(0));
-    let job = output.stdout;
-    prints(&second_on("motorway-job", &job), MOTORWAY_JOB_LINES);
-    prints(&second_on("motorway-front", &job[..48]), "refused 1 at 0\n");
-    let header = second_on("motorway-header", &job[..52]);
-    prints(&header, "refused 3 at 116\n");
-    let beat = command_on(&["beat", "1", "500"], "motorway-job-beat", &job);
-    prints(&beat, "not beaten in 500 tries\n");
+    prints_its_lines("motorway-job", MOTORWAY_JOB_LINES, 13, 116);
 }
 
 /// The longest job there is, of 16572 bytes, is read whole.

@@ -4,7 +4,7 @@
 mod common;
 
 use common::overload::{additional_sum, Reading};
-use common::{level_job, pieces, two_lane_job};
+use common::{level_job, pieces, traffic_values, two_lane_job};
 use second::account::{Account, State};
 use second::arch_job::arch_job;
 use second::chosen::edition_3;
@@ -497,17 +497,10 @@ fn sham_part(job: &Job, sham: Sham, part: Part, question: Question) -> i64 {
     }
 }
 
-fn values(account: &Account) -> [i64; 8] {
-    [
-        account.normal_greatest.value,
-        account.normal_least.value,
-        account.overload_greatest.value,
-        account.overload_least.value,
-        account.service.greatest.value,
-        account.service.least.value,
-        account.ultimate.greatest.value,
-        account.ultimate.least.value,
-    ]
+fn values(account: &Account) -> Vec<i64> {
+    let states = [account.service, account.ultimate];
+    let of_states = states.map(|state| [state.greatest.value, state.least.value]);
+    [&traffic_values(account), of_states.as_flattened()].concat()
 }
 
 /// Whether some value is less far than is due.

@@ -4,8 +4,8 @@
 mod common;
 
 use common::streams::{
-    answer_to, header_word_labels, refusal_labels, section_labels, shape_labels, Asked,
-    REFUSALS_IN_EVERY_EDITION,
+    answer_to, header_word_labels, refusal_labels, refusals_due, section_labels, shape_labels,
+    shapes_due, Asked,
 };
 use second::account::Account;
 use second::edition::Edition;
@@ -40,7 +40,7 @@ fn labels(case: &Case) -> Vec<String> {
 fn place_labels(words: &[i32], number: u64, place: usize) -> Vec<String> {
     match number {
         2 => header_labels(words, place),
-        _ => section_labels(words, place, 3),
+        _ => section_labels(words, place),
     }
 }
 
@@ -149,16 +149,8 @@ fn outcome_labels(account: &Account) -> Vec<String> {
     labels
 }
 
-fn expected_labels() -> BTreeSet<String> {
-    let mut expected = expected_refusals();
-    expected.extend(expected_orders());
-    expected.extend(expected_spans());
-    expected.extend(expected_outcomes());
-    expected.into_iter().collect()
-}
-
 fn expected_refusals() -> Vec<String> {
-    let mut expected: Vec<String> = REFUSALS_IN_EVERY_EDITION.map(String::from).to_vec();
+    let mut expected = refusals_due();
     expected.extend((1..=11).map(|place| format!("2: word {place}")));
     for place in [6, 10] {
         expected.extend([0, 2001].map(|word| format!("2: word {place} is {word}")));
@@ -223,9 +215,7 @@ fn expected_spans() -> Vec<String> {
         expected.extend(["spans", "factors"].map(|name| format!("{name} {order}")));
     }
     expected.extend([-1, 1].map(|by| format!("spans next to each other, {by}")));
-    expected.extend([1, 2, 5, 10, 25, 50].map(|h| format!("h {h}")));
-    expected.extend((1..=5).map(|lanes| format!("{lanes} lanes")));
-    expected.push("dynamic kind 4".into());
+    expected.extend(shapes_due(1..=5, 4..=4));
     expected
 }
 
@@ -244,7 +234,12 @@ fn expected_outcomes() -> Vec<String> {
 stream_tests!(Asked {
     stream: Stream::Spans,
     labels,
-    expected_labels,
+    expected: &[
+        expected_refusals,
+        expected_orders,
+        expected_spans,
+        expected_outcomes,
+    ],
     seeds: 20_000,
     with_chosen: true,
     order: &[1, 2, 3, 4, 5, 6, 7, 8, 9],

@@ -2,8 +2,8 @@
 
 mod common;
 
-use common::{pieces, spans_job};
-use second::account::{Account, Traffic};
+use common::{pieces, spans_job, traffic_values};
+use second::account::Traffic;
 use second::job::Job;
 use second::loads::{dynamic_factor, Question};
 use second::solve;
@@ -74,20 +74,10 @@ fn factors_of_all_spans() {
     assert_eq!(before, 1064);
 }
 
-/// Normal greatest and least, overload greatest and least.
-fn traffic(account: &Account) -> [i64; 4] {
-    [
-        account.normal_greatest.value,
-        account.normal_least.value,
-        account.overload_greatest.value,
-        account.overload_least.value,
-    ]
-}
-
 #[track_caller]
 fn gives(job: &Job, due: [i64; 4]) {
     let spans = (job.dynamic_value, job.further_header[0]);
-    assert_eq!(traffic(&account_of(job)), due, "{spans:?}");
+    assert_eq!(traffic_values(&account_of(job)), due, "{spans:?}");
 }
 
 /// 1380 and 2340 times 1300, 1299 and 1064.
@@ -117,7 +107,7 @@ fn the_spans_are_words_6_and_10() {
     assert_eq!(Job::decode(&words), job);
     let answer = solve(&job.bytes(), &mut [0; 2]);
     let due = [AT_1299[0], -AT_1064[0], AT_1299[1], -AT_1064[1]];
-    assert_eq!((answer.refusal, traffic(&answer.account)), (0, due));
+    assert_eq!((answer.refusal, traffic_values(&answer.account)), (0, due));
 }
 
 #[test]

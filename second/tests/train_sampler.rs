@@ -114,15 +114,8 @@ enum Sham {
 
 /// A kernel's report, with something overlooked.
 fn sham_rating(train: &Train, sham: Sham) -> Rating {
-    let (greatest, greatest_stand) = sham_furthest(train, sham, Question::Greatest);
-    let (least, least_stand) = sham_furthest(train, sham, Question::Least);
-    Rating {
-        greatest,
-        least,
-        difference: greatest - least,
-        greatest_stand,
-        least_stand,
-    }
+    let [greatest, least] = Question::BOTH.map(|question| sham_furthest(train, sham, question));
+    Rating::new(greatest, least)
 }
 
 fn sham_furthest(train: &Train, sham: Sham, question: Question) -> (i64, TrainStand) {

@@ -1,7 +1,9 @@
 //! 01 "Twelve figures to prove", as one table.
 
-use second::edition::Edition;
-use second::job::{Job, Piece, Row, LIVE_NONE, SERVICE};
+mod common;
+
+use common::{level_job, pieces};
+use second::job::Job;
 use second::job_a::job_a;
 use second::lanes::{breakpoint_centres, centre_limits, lane_count, transverse_ordinate};
 use second::line::longitudinal_effect;
@@ -12,27 +14,10 @@ use second::solve;
 /// 1300.
 fn lowering_piece() -> Job {
     Job {
-        edition: Edition::One,
-        piece_length: 50,
-        spacing: 50,
-        width: 300,
         dynamic_kind: 1,
         dynamic_value: 1300,
-        further_header: vec![],
-        pieces: vec![Piece {
-            left: -10,
-            right: -10,
-        }],
-        transverse: vec![-1000; 7],
-        second_transverse: vec![],
-        effects: vec![],
-        rows: vec![Row {
-            state: SERVICE,
-            live_kind: LIVE_NONE,
-            live_factor: 0,
-            first: 0,
-        }],
-        records: vec![],
+        pieces: pieces(&[(-10, -10)]),
+        ..level_job(300, 50, vec![-1000; 7])
     }
 }
 

@@ -5,7 +5,7 @@
 
 mod common;
 
-use common::train_case;
+use common::{traffic_values, train_case};
 use second::arch_job::arch_job;
 use second::farm_job::farm_job;
 use second::job_a::job_a;
@@ -26,13 +26,7 @@ fn ordinates() -> Ordinates {
 fn answer(changes: &[Change]) -> (u64, u64, [i64; 4]) {
     let job = changed(&job_a().words(), changes);
     let answer = solve(&bytes_of(&job), &mut [0; 20]);
-    let account = answer.account;
-    let values = [
-        account.normal_greatest.value,
-        account.normal_least.value,
-        account.overload_greatest.value,
-        account.overload_least.value,
-    ];
+    let values = traffic_values(&answer.account);
     (answer.refusal, answer.place, values)
 }
 

@@ -2,7 +2,7 @@
 //! past it, alone and with other faults beside it; the largest rows and the most
 //! words.
 
-use super::{bare_job, changed_job, fronts, longest_level_line, of_job};
+use super::{bare_job, chains_of, changed_job, fronts, longest_level_line, most_across, of_job};
 use crate::edition::Edition;
 use crate::generator::Case;
 use crate::job::{
@@ -137,18 +137,20 @@ const CHANGES: [&[Change]; 43] = [
 ];
 
 pub(super) fn cases() -> Vec<Case> {
-    let mut cases = values();
-    cases.extend(effect_faults());
-    cases.extend(header_faults());
-    cases.extend(table_faults());
-    cases.extend(editions_and_lengths());
-    cases.extend(CHANGES.map(|changes| with(changes, 1)));
-    // 9 beside everything.
-    cases.extend(CHANGES.map(|changes| with(changes, 0)));
-    cases.extend(largest_rows());
-    cases.extend(distant_and_close_rows());
-    cases.extend(most_words());
-    cases
+    [
+        values(),
+        effect_faults(),
+        header_faults(),
+        table_faults(),
+        editions_and_lengths(),
+        CHANGES.map(|changes| with(changes, 1)).to_vec(),
+        // 9 beside everything.
+        CHANGES.map(|changes| with(changes, 0)).to_vec(),
+        largest_rows(),
+        distant_and_close_rows(),
+        most_words(),
+    ]
+    .concat()
 }
 
 /// One piece, W 300, two effects that both of two rows count: 41 words.
@@ -321,17 +323,14 @@ fn most_words() -> Vec<Case> {
     let mut job = short_job();
     (job.piece_length, job.spacing, job.width) = (1, 10, 2079);
     job.pieces = vec![Piece { left: 3, right: 4 }; 1000];
-    job.transverse = (0..209).map(|at| at * 71 % 2001 - 1000).collect();
+    job.transverse = most_across(71);
     let value = |at: i64| Effect::new((at - 8) * 11_111_111_111_111, MAY_BE_LEFT_OUT);
     job.effects = (0..16).map(value).collect();
     let state = |at: usize| [SERVICE, ULTIMATE][at % 2];
     job.rows = (0..32)
         .map(|at| Row::new(state(at), LIVE_NORMAL, 1500 - at as i64, 16 * at + 1))
         .collect();
-    let next = |number| if number % 16 == 0 { 0 } else { number + 1 };
-    job.records = (1..=512)
-        .map(|number| Record::new((number - 1) % 16 + 1, 1000 + number as i64, next(number)))
-        .collect();
+    job.records = chains_of(16);
     let most = of_job(&job);
     let mut more = most.clone();
     more.job.extend([0; WORD_BYTES]);

@@ -8,11 +8,12 @@ mod refused;
 
 use super::overload_lanes::{self, lane_ordinates, uneven_line, SPANS};
 use super::{
-    chains_of, level_piece, longest_level_line, of_job, piece_of_its_own, sixteen_effects,
+    chains_of, level_piece, longest_level_line, most_across, most_rows, of_job, piece_of_its_own,
+    sixteen_effects,
 };
 use crate::edition::Edition;
 use crate::generator::Case;
-use crate::job::{Job, Piece, Row};
+use crate::job::{Job, Piece};
 
 /// Ordinates on one side, a lane each, beside another side that counts nothing.
 pub const ON_ONE_SIDE: [&[i64]; 4] = [
@@ -84,22 +85,25 @@ const ON_THE_UNEVEN_LINE: [(&[i64], &[i64]); 6] = [
 ];
 
 pub(super) fn cases() -> Vec<Case> {
-    let mut cases: Vec<Case> = jobs().iter().map(of_job).collect();
-    cases.extend(refused::cases());
-    cases
+    let accepted = jobs().iter().map(of_job).collect();
+    [accepted, refused::cases()].concat()
 }
 
 fn jobs() -> Vec<Job> {
-    let mut jobs = beside_nothing();
-    jobs.extend(every_pair_of_lane_counts());
-    jobs.extend(ORDINATES.map(|(first, second)| lanes_job(first, second)));
-    jobs.extend(with_spans());
-    jobs.extend(on_the_uneven_line());
-    jobs.extend(centres_anywhere());
-    jobs.extend(largest());
-    jobs.extend(ordinates_at_limits());
-    jobs.push(longest());
-    jobs
+    [
+        beside_nothing(),
+        every_pair_of_lane_counts(),
+        ORDINATES
+            .map(|(first, second)| lanes_job(first, second))
+            .to_vec(),
+        with_spans(),
+        on_the_uneven_line(),
+        centres_anywhere(),
+        largest(),
+        ordinates_at_limits(),
+        vec![longest()],
+    ]
+    .concat()
 }
 
 /// Lanes of 400 cm on both sides of the median, whose centres, from 150 to 250 cm into
@@ -256,16 +260,11 @@ pub fn longest() -> Job {
         right: piece.right / 10,
     };
     job.pieces = (0..1000).map(piece_of_its_own).map(tenth).collect();
-    job.transverse = (0..209).map(|at| at * 71 % 2001 - 1000).collect();
+    job.transverse = most_across(71);
     job.further_header[2] = 2079;
-    job.second_transverse = (0..209).map(|at| at * 97 % 2001 - 1000).collect();
+    job.second_transverse = most_across(97);
     job.effects = sixteen_effects();
     job.records = chains_of(16);
-    job.rows = (0..32)
-        .map(|at| {
-            let (state, live_kind) = (1 + at as i64 % 2, 1 + at as i64 / 2 % 2);
-            Row::new(state, live_kind, 1500 - at as i64, 16 * at + 1)
-        })
-        .collect();
+    job.rows = most_rows();
     job
 }

@@ -71,14 +71,16 @@ const CHANGES: [&[Change]; 39] = [
 ];
 
 pub(super) fn cases() -> Vec<Case> {
-    let mut cases = widths();
-    cases.extend(editions_and_lengths());
-    cases.extend(CHANGES.map(|changes| with(changes, 1)));
-    // 9 beside everything.
-    cases.extend(CHANGES.map(|changes| with(changes, 0)));
-    cases.extend(effect_faults());
-    cases.extend(largest());
-    cases
+    [
+        widths(),
+        editions_and_lengths(),
+        CHANGES.map(|changes| with(changes, 1)).to_vec(),
+        // 9 beside everything.
+        CHANGES.map(|changes| with(changes, 0)).to_vec(),
+        effect_faults(),
+        largest(),
+    ]
+    .concat()
 }
 
 /// One piece, W 300 without barriers, a different value for each effect: 42

@@ -76,13 +76,15 @@ pub fn cases() -> impl Iterator<Item = Case> {
 }
 
 fn jobs() -> Vec<Job> {
-    let mut jobs = in_every_order();
-    jobs.extend(in_both_editions());
-    jobs.extend(with_spans());
-    jobs.extend(on_the_uneven_line());
-    jobs.extend(WIDTHS.map(level_job));
-    jobs.extend(largest());
-    jobs
+    [
+        in_every_order(),
+        in_both_editions(),
+        with_spans(),
+        on_the_uneven_line(),
+        WIDTHS.map(level_job).to_vec(),
+        largest(),
+    ]
+    .concat()
 }
 
 /// Lanes of 400 cm, whose centres, from 150 to 250 cm into them, all have the lane's

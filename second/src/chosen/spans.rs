@@ -4,13 +4,13 @@
 
 use super::edition_2::sixteen_in_a_row;
 use super::farm::short_farm_job;
-use super::{bare_job, changed_job, fronts, level_piece, longest_level_line, of_job};
+use super::{
+    bare_job, changed_job, fronts, level_piece, longest_level_line, of_job, short_job_of_edition_2,
+};
 use crate::edition::Edition;
 use crate::generator::spans::{TURNS, WHOLE};
 use crate::generator::Case;
-use crate::job::{
-    Effect, Job, Record, Row, ALWAYS_PRESENT, LIVE_NORMAL, LIVE_OVERLOAD, SERVICE, ULTIMATE,
-};
+use crate::job::{Effect, Job, Row, ALWAYS_PRESENT, LIVE_NORMAL, SERVICE};
 use crate::sections::{
     DYNAMIC_KIND, DYNAMIC_VALUE, EDITION, EFFECTS, PIECES, PIECE_LENGTH, RECORDS, ROWS,
     SPAN_FOR_LEAST,
@@ -73,30 +73,23 @@ const LATER_FAULTS: [&[Change]; 8] = [
 ];
 
 pub(super) fn cases() -> Vec<Case> {
-    let mut cases = factors();
-    cases.extend(forms());
-    cases.extend(largest());
-    cases.extend(kinds_and_words_10());
-    cases.extend(spans_at_fault());
-    cases.extend(beside_header_faults());
-    cases.extend(beside_later_faults());
-    cases.extend(editions_and_lengths());
-    cases.extend(elsewhere());
-    cases
+    [
+        factors(),
+        forms(),
+        largest(),
+        kinds_and_words_10(),
+        spans_at_fault(),
+        beside_header_faults(),
+        beside_later_faults(),
+        editions_and_lengths(),
+        elsewhere(),
+    ]
+    .concat()
 }
 
-/// Two pieces of both signs, W 300, an effect and two rows with traffic: 40 words.
+/// The short job of edition 2 with these spans: 40 words.
 fn short_job(greatest: i64, least: i64) -> Job {
-    Job {
-        pieces: vec![level_piece(8), level_piece(-6)],
-        effects: vec![Effect::new(5_000_000_000, ALWAYS_PRESENT)],
-        rows: vec![
-            Row::new(SERVICE, LIVE_NORMAL, 1350, 1),
-            Row::new(ULTIMATE, LIVE_OVERLOAD, 1500, 2),
-        ],
-        records: vec![Record::new(1, 1000, 0), Record::new(1, 1200, 0)],
-        ..bare_job(Edition::Two, vec![0; 2]).with_spans(greatest, least)
-    }
+    short_job_of_edition_2().with_spans(greatest, least)
 }
 
 /// The short job's words changed, with a patch buffer of so many bytes.

@@ -41,6 +41,17 @@ pub const REPORT_NUMBERS: usize = 9;
 pub const REPORT_BYTES: usize = 8 * REPORT_NUMBERS;
 
 impl Rating {
+    /// The values of both questions, each with a stand that gives it.
+    pub fn new(greatest: (i64, TrainStand), least: (i64, TrainStand)) -> Rating {
+        Rating {
+            greatest: greatest.0,
+            least: least.0,
+            difference: greatest.0 - least.0,
+            greatest_stand: greatest.1,
+            least_stand: least.1,
+        }
+    }
+
     pub fn value(&self, question: Question) -> i64 {
         match question {
             Question::Greatest => self.greatest,

@@ -15,12 +15,14 @@ pub mod train_definition;
 use second::account::{Lane, Traffic};
 use second::arrangement::LoadedLane;
 use second::edition::Edition;
+use second::generator::Case;
 use second::job::{
     Effect, Job, Piece, Record, Row, ALWAYS_PRESENT, LIVE_NONE, LIVE_NORMAL, LIVE_OVERLOAD,
     MAY_BE_LEFT_OUT, SERVICE, ULTIMATE,
 };
 use second::line::section_bytes;
 use second::train::{Axle, TrainCase};
+use second::{solve, Account};
 
 pub fn pieces(ordinates: &[(i64, i64)]) -> Vec<Piece> {
     ordinates
@@ -171,6 +173,48 @@ pub fn small_farm_job(values: [i64; 11]) -> Job {
         effects: marked.collect(),
         rows: vec![],
         ..level_job(300, 50, vec![1000; 7])
+    }
+}
+
+/// The account of a job that is accepted.
+#[track_caller]
+pub fn account(job: &Job) -> Account {
+    let answer = solve(&job.bytes(), &mut vec![0; job.pieces.len()]);
+    assert_eq!((answer.refusal, answer.place), (0, 0));
+    answer.account
+}
+
+/// The account of a job that is one of these stored cases.
+#[track_caller]
+pub fn stored_account(job: &Job, mut cases: impl Iterator<Item = Case>) -> Account {
+    let bytes = job.bytes();
+    assert!(cases.any(|case| case.job == bytes), "not stored");
+    account(job)
+}
+
+/// Normal greatest and least, overload greatest and least.
+pub fn traffic_values(account: &Account) -> [i64; 4] {
+    [
+        account.normal_greatest.value,
+        account.normal_least.value,
+        account.overload_greatest.value,
+        account.overload_least.value,
+    ]
+}
+
+/// What a lane has in place of a factor where it is the HO lane, and where it is
+/// unloaded.
+pub const HO: i64 = -1;
+pub const NO: i64 = 0;
+
+/// The lane's factor, with `HO` and `NO` for one that has none.
+#[track_caller]
+pub fn marked_factor(lane: &Lane) -> i64 {
+    match (lane.entry, lane.factor) {
+        (0, 0) => NO,
+        (3 | 4, 0) => HO,
+        (1 | 2, 1..) => lane.factor,
+        shown => panic!("{shown:?}"),
     }
 }
 

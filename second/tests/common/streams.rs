@@ -5,11 +5,13 @@ use second::edition::Edition;
 use second::generator::{case, damaged, faults_of, Case, Stream};
 use second::job::Job;
 use second::lanes::lanes_of_job;
+use second::loads::Question;
 use second::rng::Rng;
-use second::sections::Sections;
+use second::sections::{Sections, WORDS_PER_PIECE, WORDS_PER_RECORD, WORDS_PER_ROW};
 use second::words::{words_of, WORD_BYTES};
-use second::{chosen, solve, store, Answer};
+use second::{chosen, solve, store, Account, Answer};
 use std::collections::BTreeSet;
+use std::ops::RangeInclusive;
 
 pub fn answer_to(case: &Case) -> Answer {
     solve(&case.job, &mut case.patch.clone())
@@ -32,7 +34,8 @@ pub struct Asked {
     pub stream: Stream,
     /// What is worth reaching about a case.
     pub labels: fn(&Case) -> Vec<String>,
-    pub expected_labels: fn() -> BTreeSet<String>,
+    /// What is expected of them, in parts.
+    pub expected: &'static [fn() -> Vec<String>],
     /// How many seeds, from 0 on, reach what is expected.
     pub seeds: u64,
     /// Whether the stored cases that reach it include the chosen ones.
@@ -63,7 +66,8 @@ impl Asked {
 
     #[track_caller]
     fn reached_by(&self, cases: impl Iterator<Item = Case>) {
-        reach_all(cases, self.labels, (self.expected_labels)());
+        let expected = self.expected.iter().flat_map(|part| part());
+        reach_all(cases, self.labels, expected.collect());
     }
 
     #[track_caller]
@@ -156,15 +160,36 @@ pub fn fnv_1a(bytes: impl Iterator<Item = u8>) -> u64 {
     })
 }
 
+pub fn texts(labels: &[&str]) -> Vec<String> {
+    labels.iter().map(|label| label.to_string()).collect()
+}
+
 /// Labels of `refusal_labels` that are due in every edition.
-pub const REFUSALS_IN_EVERY_EDITION: [&str; 6] = [
-    "1: no word 0",
-    "1: uneven",
-    "1: another edition",
-    "3: too few",
-    "3: too many",
-    "9: a short patch buffer",
-];
+pub fn refusals_due() -> Vec<String> {
+    texts(&[
+        "1: no word 0",
+        "1: uneven",
+        "1: another edition",
+        "3: too few",
+        "3: too many",
+        "9: a short patch buffer",
+    ])
+}
+
+/// Labels of `section_labels` that are due in every edition with tables of its own.
+pub fn refusals_of_tables_due() -> Vec<String> {
+    let mut due = texts(&[
+        "6: first effect",
+        "6: last effect",
+        "6: effect word 0",
+        "7: row word 0",
+        "8: row word 0",
+    ]);
+    for (name, words) in [("row", 4), ("record", 3)] {
+        due.extend((0..words).map(|word| format!("6: {name} word {word}")));
+    }
+    due
+}
 
 /// The labels of a refused case, each behind the refusal's number; none for a job
 /// of another edition. `place_labels` has a job's words, the refusal and its place.
@@ -213,29 +238,48 @@ pub fn header_word_labels(words: &[i32], place: usize) -> Vec<String> {
     labels
 }
 
-/// The place within its section.
-pub fn section_labels(words: &[i32], place: usize, words_per_effect: usize) -> Vec<String> {
+/// A place among the entries of a section.
+pub struct EntryPlace {
+    pub entry: &'static str,
+    /// The entry's number, from 0, and how many there are.
+    pub number: usize,
+    pub entries: usize,
+    /// The word of the entry, from 0.
+    pub word: usize,
+}
+
+pub fn entry_place(words: &[i32], place: usize) -> Option<EntryPlace> {
     let sections = Sections::called_for_by(words);
-    let mut labels = vec![];
-    for (name, section, each) in [
-        ("piece", sections.line, 2),
+    let edition = Edition::of_words(words).expect("the edition is admitted");
+    [
+        ("piece", sections.line, WORDS_PER_PIECE),
         ("transverse", sections.transverse, 1),
         ("second transverse", sections.second_transverse, 1),
-        ("effect", sections.effects, words_per_effect),
-        ("row", sections.rows, 4),
-        ("record", sections.records, 3),
-    ] {
-        if !section.contains(&place) {
-            continue;
-        }
-        let within = place - section.start;
-        labels.push(format!("{name} word {}", within % each));
-        if within < each {
-            labels.push(format!("first {name}"));
-        }
-        if place + each >= section.end {
-            labels.push(format!("last {name}"));
-        }
+        ("effect", sections.effects, edition.words_per_effect()),
+        ("row", sections.rows, WORDS_PER_ROW),
+        ("record", sections.records, WORDS_PER_RECORD),
+    ]
+    .into_iter()
+    .find(|(_, section, _)| section.contains(&place))
+    .map(|(entry, section, each)| EntryPlace {
+        entry,
+        number: (place - section.start) / each,
+        entries: section.len() / each,
+        word: (place - section.start) % each,
+    })
+}
+
+/// The place within its section.
+pub fn section_labels(words: &[i32], place: usize) -> Vec<String> {
+    let Some(at) = entry_place(words, place) else {
+        return vec![];
+    };
+    let mut labels = vec![format!("{} word {}", at.entry, at.word)];
+    if at.number == 0 {
+        labels.push(format!("first {}", at.entry));
+    }
+    if at.number + 1 == at.entries {
+        labels.push(format!("last {}", at.entry));
     }
     labels
 }
@@ -247,4 +291,52 @@ pub fn shape_labels(job: &Job) -> Vec<String> {
         format!("{} lanes", lanes_of_job(job)),
         format!("dynamic kind {}", job.dynamic_kind),
     ]
+}
+
+/// Labels of `shape_labels`: every h, and these numbers of lanes and dynamic kinds.
+pub fn shapes_due(lanes: RangeInclusive<usize>, kinds: RangeInclusive<i64>) -> Vec<String> {
+    let mut due = [1, 2, 5, 10, 25, 50].map(|h| format!("h {h}")).to_vec();
+    due.extend(lanes.map(|lanes| format!("{lanes} lanes")));
+    due.extend(kinds.map(|kind| format!("dynamic kind {kind}")));
+    due
+}
+
+/// How the values of the states come about in a job with rows of its own.
+pub fn state_labels(job: &Job, account: &Account) -> Vec<String> {
+    let mut labels = vec![];
+    for (name, state) in [("service", account.service), ("ultimate", account.ultimate)] {
+        if state.present == 0 {
+            labels.push(format!("{name} none"));
+            continue;
+        }
+        for question in Question::BOTH {
+            let governing = state.governing(question);
+            let row = job.rows[governing.row as usize - 1];
+            let later = &job.rows[governing.row as usize..];
+            let past_the_first = governing.row > 1 && job.rows[0].state == row.state;
+            labels.push(format!("{name} {question:?} of kind {}", row.live_kind));
+            let named = [
+                ("leaves out effects", governing.omitted != 0),
+                ("ties", later.contains(&row)),
+                ("past its first row", past_the_first),
+            ];
+            let holding = named.into_iter().filter(|(_, holds)| *holds);
+            labels.extend(holding.map(|(label, _)| format!("{name} {question:?} {label}")));
+        }
+    }
+    labels
+}
+
+/// All labels of `state_labels`.
+pub fn states_due() -> Vec<String> {
+    let mut due = vec![];
+    for name in ["service", "ultimate"] {
+        due.push(format!("{name} none"));
+        for question in Question::BOTH {
+            due.extend((0..=2).map(|kind| format!("{name} {question:?} of kind {kind}")));
+            let others = ["leaves out effects", "ties", "past its first row"];
+            due.extend(others.map(|label| format!("{name} {question:?} {label}")));
+        }
+    }
+    due
 }

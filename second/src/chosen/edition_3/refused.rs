@@ -2,13 +2,13 @@
 //! count, ordinates of the line and of both transverse sections, the tables and the patch
 //! buffer; alone and with other faults beside them.
 
-use super::super::{bare_job, changed_job, fronts, level_piece, of_job, with_words};
+use super::super::{
+    changed_job, fronts, of_job, short_job_of_edition_2, with_short_second_carriageway, with_words,
+};
 use super::overload_lanes;
 use crate::edition::Edition;
 use crate::generator::Case;
-use crate::job::{
-    Effect, Job, Record, Row, ALWAYS_PRESENT, LIVE_NORMAL, LIVE_OVERLOAD, SERVICE, ULTIMATE,
-};
+use crate::job::Job;
 use crate::sections::{
     DYNAMIC_KIND, DYNAMIC_VALUE, EDITION, EFFECTS, PIECES, PIECE_LENGTH, RECORDS, ROWS,
     SECOND_WIDTH, SPACING, SPAN_FOR_LEAST, WIDTH,
@@ -101,33 +101,24 @@ const SECTION_FAULTS: [Change; 3] = [
 ];
 
 pub(super) fn cases() -> Vec<Case> {
-    let mut cases = second_widths();
-    cases.extend(header_faults());
-    cases.extend(kinds_and_words_10_and_11());
-    cases.extend(word_counts());
-    cases.extend(ordinates());
-    cases.extend(later_faults());
-    cases.extend(editions_and_lengths());
-    cases.extend(one_carriageway());
-    cases
+    [
+        second_widths(),
+        header_faults(),
+        kinds_and_words_10_and_11(),
+        word_counts(),
+        ordinates(),
+        later_faults(),
+        editions_and_lengths(),
+        one_carriageway(),
+    ]
+    .concat()
 }
 
-/// Two pieces of both signs, a carriageway of 300 cm and one of 350, an effect and two
-/// rows with traffic: 49 words.
+/// The short job of edition 2 with a factor of 1150 and a second carriageway: 49 words.
 fn short_job() -> Job {
-    let one = Job {
-        dynamic_kind: 1,
-        dynamic_value: 1150,
-        pieces: vec![level_piece(8), level_piece(-6)],
-        effects: vec![Effect::new(5_000_000_000, ALWAYS_PRESENT)],
-        rows: vec![
-            Row::new(SERVICE, LIVE_NORMAL, 1350, 1),
-            Row::new(ULTIMATE, LIVE_OVERLOAD, 1500, 2),
-        ],
-        records: vec![Record::new(1, 1000, 0), Record::new(1, 1200, 0)],
-        ..bare_job(Edition::Two, vec![0; 2])
-    };
-    one.with_second_carriageway(350, vec![-60, 900, 70, 640, 510, 480, -220, 990])
+    let mut job = with_short_second_carriageway(short_job_of_edition_2());
+    (job.dynamic_kind, job.dynamic_value) = (1, 1150);
+    job
 }
 
 /// The short job's words changed, with a patch buffer of so many bytes.
