@@ -46,12 +46,6 @@ section-requires c κs = sized (begun (c .before .before) .pre .0)
 section-requires-2 : tie.Need-section-requires-2
 section-requires-2 c κs = sized (begun (c .before .before .before) .pre .0)
 
-across-of-requires : tie.Need-across-of-requires
-across-of-requires c κs =
-    let s = begun (c .before .before .before .before) in
-    let a = s .args .head in
-    (subst (λ (l : List ℕ). TransverseFits l (a .width) (a .spacing)) (sym (c .before .section .ensures)) (across-fits (s .pre .0)), λ h. subst (λ (l : List ℕ). TransverseFits l (a .second) (a .spacing)) (sym (c .section2 .ensures)) (second-fits (s .pre .0) h))
-
 module _ (c : tie.After-across-of) where
   abbrev formed : tie.After-effect4
   formed = c .before .before .before .before .before
@@ -96,6 +90,12 @@ module _ (c : tie.After-across-of) where
   -- what is required with a factor in range and line effects that fit where HO's are asked for
   ready : {d : ℕ} {x : Effects} → (1000 ≤ d) × (d ≤ 1300) → LoadsFit hoLineMost (c .across-of .result) x → AcrossFits (c .across-of .result) × (profileOf (st .args .head .edition) ≡ rural → c .across-of .result .lanes ≡ 1) × (1000 ≤ d) × (d ≤ 1300) × LoadsFit hnLineMost (c .across-of .result) hn × LoadsFit hoLineMost (c .across-of .result) x
   ready d x = (c .across-of .ensures .0, λ r. over .lanes ∙ one-lane (st .pre .0) r, d .0, d .1, hn-fit, x)
+
+across-of-requires : tie.Need-across-of-requires
+across-of-requires c κs =
+    let s = begun (c .before .before .before .before) in
+    let a = s .args .head in
+    (subst (λ (l : List ℕ). TransverseFits l (a .width) (a .spacing)) (sym (c .before .section .ensures)) (across-fits (s .pre .0)), λ h. subst (λ (l : List ℕ). TransverseFits l (a .second) (a .spacing)) (sym (c .section2 .ensures)) (second-fits (s .pre .0) h))
 
 -- HN's line effects fit there too, so only what is ensured tells them apart
 both-requires : tie.Need-both-requires

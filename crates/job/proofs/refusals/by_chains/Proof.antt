@@ -24,14 +24,6 @@ returns c =
     let k = c .before .before .before in
     ruled 7 _ (omega arith) (refuses (first k .before .before .pre) refl _ (sym (k .defective2 .ensures) ∙ ap findingOf (c .before .returning .given .1)))
 
-returns-2 : tie.Need-returns-2
-unfolding jobTests fault7
-returns-2 c =
-    let k = c .before .before in
-    let c7 = sym (k .defective2 .ensures) ∙ ap findingOf (c .enum-told .given .1) in
-    let c8 = repeats-alone _ c7 ∙ sym (first k .defective .ensures) ∙ ap findingOf (k .before .before .repeating .given .1) in
-    ruled 8 _ (omega arith) (refuses (goes-on (first k .before .before .pre) c7) refl _ c8)
-
 returns-3 : tie.Need-returns-3
 unfolding jobTests
 returns-3 c =
@@ -41,6 +33,14 @@ returns-3 c =
     let r = sym (k .defective .ensures) ∙ ap findingOf (c .enum-told2 .given .1) in
     let c7 = none-returns _ (t .0) (t .1) r in
     record { says = sym (accepts (goes-on (goes-on p c7) (repeats-alone _ c7 ∙ r)) (omega arith)); blank = λ _. refl }
+
+returns-2 : tie.Need-returns-2
+unfolding jobTests fault7
+returns-2 c =
+    let k = c .before .before in
+    let c7 = sym (k .defective2 .ensures) ∙ ap findingOf (c .enum-told .given .1) in
+    let c8 = repeats-alone _ c7 ∙ sym (first k .defective .ensures) ∙ ap findingOf (k .before .before .repeating .given .1) in
+    ruled 8 _ (omega arith) (refuses (goes-on (first k .before .before .pre) c7) refl _ c8)
 
 pub by-chains-spec : {M : Type 1} → statement M
 by-chains-spec =
