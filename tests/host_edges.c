@@ -19,10 +19,10 @@ enum {
   EFFECTS_AT = 69,
   ROWS_AT = 71,
   RECORDS_AT = 79,
-  FARM_WORDS = 42, /* of the farm job at W 300 */
-  FARM_MOST_WORDS = 78, /* at W 2080 */
-  FARM_LINE_AT = 11,
-  FARM_EFFECTS = 11,
+  RURAL_WORDS = 42, /* of the farm job at W 300 */
+  RURAL_MOST_WORDS = 78, /* at W 2080 */
+  RURAL_LINE_AT = 11,
+  RURAL_EFFECTS = 11,
   WIDE_ACROSS = 7, /* transverse ordinates of a job of edition 2 or 3 on its carriageway of 300 cm */
   WIDE_MOST_SECOND_ACROSS = 43, /* and on a second of 2100 cm */
   WIDE_MOST_EFFECTS = 16,
@@ -140,13 +140,13 @@ static void expect_governing(struct hnho_governing g, int64_t value, int64_t row
   expect(g.k == k, what);
 }
 
-/* The account of the farm job that pack_farm packs, at any lawful width, its patch bytes, and everything past them as before. The
+/* The account of the farm job that pack_rural packs, at any lawful width, its patch bytes, and everything past them as before. The
  * line has both ordinates 8 on its one piece of 5 m, all transverse ordinates are 1000 and the dynamic factor is 1: HN is
  * 7 * 50 * 16 + 1600 * 8 = 18400, for only one axle is on, and 18400 * 1000 * 20 * 1000 * 3 / 800000 * 17 / 20 = 1173000 N.U. In
  * kN.U, with DL 1000, SG 4, ST 5, TP 100, EQ 5000 and the others 0:
  *   service greatest: 3A (row 6), 1000 + 4 + 5 + 5000 + 33; service least: 1000 in every row, so row 1's, without SG and ST
  *   ultimate greatest: 3A (row 16), 1300 + 4 + 5 + 5000 + 33; ultimate least: 3A, 800, without SG, ST, TP and EQ */
-static void expect_farm_job(struct buffer patch, struct buffer account) {
+static void expect_rural_job(struct buffer patch, struct buffer account) {
   struct hnho_account a;
   size_t number;
   expect(all_are(patch.bytes, 0, 1, HNHO_PATCH_RAISING), "the patch byte is not the farm job's");
@@ -404,10 +404,10 @@ static void wide_ordinates(void) {
   }
 }
 
-/* Packs the farm job of expect_farm_job with this width and barriers; its words. */
-static size_t pack_farm(uint8_t *job, int32_t width, int32_t barriers) {
-  static const int32_t effects[FARM_EFFECTS] = {1000, 0, 0, 4, 5, 100, 0, 0, 0, 5000, 0};
-  const int32_t header[HNHO_RURAL_HEADER_WORDS] = {HNHO_EDITION_RURAL, 50, 1, 50, width, 2, 0, FARM_EFFECTS, 0, 0, barriers};
+/* Packs the farm job of expect_rural_job with this width and barriers; its words. */
+static size_t pack_rural(uint8_t *job, int32_t width, int32_t barriers) {
+  static const int32_t effects[RURAL_EFFECTS] = {1000, 0, 0, 4, 5, 100, 0, 0, 0, 5000, 0};
+  const int32_t header[HNHO_RURAL_HEADER_WORDS] = {HNHO_EDITION_RURAL, 50, 1, 50, width, 2, 0, RURAL_EFFECTS, 0, 0, barriers};
   size_t words = 0;
   int32_t i;
   for (i = 0; i < HNHO_RURAL_HEADER_WORDS; i++)
@@ -416,7 +416,7 @@ static size_t pack_farm(uint8_t *job, int32_t width, int32_t barriers) {
     hnho_put_word(job, words++, 8);
   for (i = 0; i < (width + 49) / 50 + 1; i++)
     hnho_put_word(job, words++, 1000);
-  for (i = 0; i < FARM_EFFECTS; i++) {
+  for (i = 0; i < RURAL_EFFECTS; i++) {
     hnho_put_word(job, words++, effects[i]);
     hnho_put_word(job, words++, i < 3 ? 1 : 2);
   }
@@ -424,22 +424,22 @@ static size_t pack_farm(uint8_t *job, int32_t width, int32_t barriers) {
 }
 
 /* The farm job at W 300 without barriers, with two words changed. */
-static void call_farm_changed_twice(const char *name, size_t word, int32_t value, size_t other, int32_t other_value, int number,
+static void call_rural_changed_twice(const char *name, size_t word, int32_t value, size_t other, int32_t other_value, int number,
                                     uint64_t place) {
-  uint8_t job[4 * FARM_MOST_WORDS];
-  size_t words = pack_farm(job, 300, HNHO_BARRIERS_NONE);
+  uint8_t job[4 * RURAL_MOST_WORDS];
+  size_t words = pack_rural(job, 300, HNHO_BARRIERS_NONE);
   step = name;
   hnho_put_word(job, word, value);
   hnho_put_word(job, other, other_value);
   call(job, 4 * words, 1, HNHO_ACCOUNT_BYTES, 0, number, place);
 }
 
-static void call_farm_changed(const char *name, size_t word, int32_t value, int number, uint64_t place) {
-  call_farm_changed_twice(name, word, value, word, value, number, place);
+static void call_rural_changed(const char *name, size_t word, int32_t value, int number, uint64_t place) {
+  call_rural_changed_twice(name, word, value, word, value, number, place);
 }
 
 /* Each width of note with each barriers: at and next to the ends of the bands, and of word 4's own limits. */
-static void farm_widths(void) {
+static void rural_widths(void) {
   static const struct {
     int32_t width;
     int number[3];
@@ -454,32 +454,32 @@ static void farm_widths(void) {
     {2079, {HNHO_WIDTH_BAND, HNHO_WIDTH_BAND, HNHO_WIDTH_BAND}},
     {2080, {HNHO_HEADER_LIMIT, HNHO_HEADER_LIMIT, HNHO_HEADER_LIMIT}}
   };
-  uint8_t job[4 * FARM_MOST_WORDS];
+  uint8_t job[4 * RURAL_MOST_WORDS];
   size_t i;
   int32_t barriers;
   step = "the width of a farm bridge";
   for (i = 0; i < sizeof due / sizeof *due; i++)
     for (barriers = HNHO_BARRIERS_NONE; barriers <= HNHO_BARRIERS_TRAFFIC; barriers++) {
-      size_t words = pack_farm(job, due[i].width, barriers);
+      size_t words = pack_rural(job, due[i].width, barriers);
       int number = due[i].number[barriers - 1];
       call(job, 4 * words, 1, HNHO_ACCOUNT_BYTES, 0, number, number == HNHO_ACCEPTED ? 0 : HNHO_WORD_W);
     }
 }
 
 /* The front of the farm job: eleven words are due for its header, ten for edition 1's. */
-static void farm_lengths(void) {
-  uint8_t job[4 * FARM_MOST_WORDS];
-  size_t bytes = 4 * pack_farm(job, 300, HNHO_BARRIERS_NONE), n;
+static void rural_lengths(void) {
+  uint8_t job[4 * RURAL_MOST_WORDS];
+  size_t bytes = 4 * pack_rural(job, 300, HNHO_BARRIERS_NONE), n;
   step = "the front of the farm job";
-  expect(bytes == 4 * FARM_WORDS, "its words");
+  expect(bytes == 4 * RURAL_WORDS, "its words");
   for (n = 0; n < bytes; n++)
     if (n < 4 * HNHO_RURAL_HEADER_WORDS || n % 4 != 0)
       call(job, n, 1, HNHO_ACCOUNT_BYTES, 0, HNHO_NOT_A_JOB, 0);
     else
-      call(job, n, 1, HNHO_ACCOUNT_BYTES, 0, HNHO_WORD_COUNT, FARM_WORDS);
+      call(job, n, 1, HNHO_ACCOUNT_BYTES, 0, HNHO_WORD_COUNT, RURAL_WORDS);
   step = "the farm job and one word";
-  hnho_put_word(job, FARM_WORDS, 0);
-  call(job, bytes + 4, 1, HNHO_ACCOUNT_BYTES, 0, HNHO_WORD_COUNT, FARM_WORDS);
+  hnho_put_word(job, RURAL_WORDS, 0);
+  call(job, bytes + 4, 1, HNHO_ACCOUNT_BYTES, 0, HNHO_WORD_COUNT, RURAL_WORDS);
   step = "buffers longer than the farm job needs";
   call(job, bytes, 9, HNHO_ACCOUNT_BYTES + 8, 0, HNHO_ACCEPTED, 0);
   step = "the farm job without a patch buffer";
@@ -488,45 +488,45 @@ static void farm_lengths(void) {
   call(job, bytes, 1, HNHO_ACCOUNT_BYTES - 1, 0, HNHO_HEADER_LIMIT, 0);
 }
 
-static void farm_refusals(void) {
+static void rural_refusals(void) {
   static const int32_t editions[] = {0, 5, -4, 259, INT32_MIN, INT32_MAX};
   static const int32_t barriers[] = {0, 4, -1, INT32_MIN, INT32_MAX};
-  const size_t effects_at = FARM_WORDS - 2 * FARM_EFFECTS;
+  const size_t effects_at = RURAL_WORDS - 2 * RURAL_EFFECTS;
   size_t i;
   for (i = 0; i < sizeof editions / sizeof *editions; i++)
-    call_farm_changed("another edition", HNHO_WORD_EDITION, editions[i], HNHO_NOT_A_JOB, 0);
-  call_farm_changed("the farm job as edition 1", HNHO_WORD_EDITION, HNHO_EDITION_HIGHWAY, HNHO_HEADER_LIMIT, HNHO_WORD_R);
-  call_farm_changed("the farm job as edition 2", HNHO_WORD_EDITION, HNHO_EDITION_NEWTONS, HNHO_HEADER_LIMIT, HNHO_WORD_R);
-  call_farm_changed("the farm job as edition 3", HNHO_WORD_EDITION, HNHO_EDITION_TWO_CARRIAGEWAYS, HNHO_HEADER_LIMIT, HNHO_WORD_R);
+    call_rural_changed("another edition", HNHO_WORD_EDITION, editions[i], HNHO_NOT_A_JOB, 0);
+  call_rural_changed("the farm job as edition 1", HNHO_WORD_EDITION, HNHO_EDITION_HIGHWAY, HNHO_HEADER_LIMIT, HNHO_WORD_R);
+  call_rural_changed("the farm job as edition 2", HNHO_WORD_EDITION, HNHO_EDITION_NEWTONS, HNHO_HEADER_LIMIT, HNHO_WORD_R);
+  call_rural_changed("the farm job as edition 3", HNHO_WORD_EDITION, HNHO_EDITION_TWO_CARRIAGEWAYS, HNHO_HEADER_LIMIT, HNHO_WORD_R);
   for (i = 1; i < HNHO_RURAL_HEADER_WORDS; i++)
-    call_farm_changed("a header word of -1", i, -1, HNHO_HEADER_LIMIT, i);
-  call_farm_changed("ten effects", HNHO_WORD_E, 10, HNHO_HEADER_LIMIT, HNHO_WORD_E);
-  call_farm_changed("twelve effects", HNHO_WORD_E, 12, HNHO_HEADER_LIMIT, HNHO_WORD_E);
-  call_farm_changed("a row", HNHO_WORD_R, 1, HNHO_HEADER_LIMIT, HNHO_WORD_R);
-  call_farm_changed("a record", HNHO_WORD_C, 1, HNHO_HEADER_LIMIT, HNHO_WORD_C);
+    call_rural_changed("a header word of -1", i, -1, HNHO_HEADER_LIMIT, i);
+  call_rural_changed("ten effects", HNHO_WORD_E, 10, HNHO_HEADER_LIMIT, HNHO_WORD_E);
+  call_rural_changed("twelve effects", HNHO_WORD_E, 12, HNHO_HEADER_LIMIT, HNHO_WORD_E);
+  call_rural_changed("a row", HNHO_WORD_R, 1, HNHO_HEADER_LIMIT, HNHO_WORD_R);
+  call_rural_changed("a record", HNHO_WORD_C, 1, HNHO_HEADER_LIMIT, HNHO_WORD_C);
   for (i = 0; i < sizeof barriers / sizeof *barriers; i++)
-    call_farm_changed("no such barriers", HNHO_WORD_BARRIERS, barriers[i], HNHO_HEADER_LIMIT, HNHO_WORD_BARRIERS);
-  call_farm_changed("a width that calls for more words", HNHO_WORD_W, 431, HNHO_WIDTH_BAND, HNHO_WORD_W);
-  call_farm_changed("a width too narrow", HNHO_WORD_BARRIERS, HNHO_BARRIERS_TRAFFIC, HNHO_WIDTH_BAND, HNHO_WORD_W);
-  call_farm_changed("a piece more than there is", HNHO_WORD_N, 2, HNHO_WORD_COUNT, FARM_WORDS + 2);
-  call_farm_changed("an ordinate of 5001", FARM_LINE_AT, 5001, HNHO_ORDINATE_LIMIT, FARM_LINE_AT);
-  call_farm_changed("a piece that crosses 0", FARM_LINE_AT + 1, -1, HNHO_PIECE_CROSSES, FARM_LINE_AT);
-  for (i = 0; i < FARM_EFFECTS; i++) {
+    call_rural_changed("no such barriers", HNHO_WORD_BARRIERS, barriers[i], HNHO_HEADER_LIMIT, HNHO_WORD_BARRIERS);
+  call_rural_changed("a width that calls for more words", HNHO_WORD_W, 431, HNHO_WIDTH_BAND, HNHO_WORD_W);
+  call_rural_changed("a width too narrow", HNHO_WORD_BARRIERS, HNHO_BARRIERS_TRAFFIC, HNHO_WIDTH_BAND, HNHO_WORD_W);
+  call_rural_changed("a piece more than there is", HNHO_WORD_N, 2, HNHO_WORD_COUNT, RURAL_WORDS + 2);
+  call_rural_changed("an ordinate of 5001", RURAL_LINE_AT, 5001, HNHO_ORDINATE_LIMIT, RURAL_LINE_AT);
+  call_rural_changed("a piece that crosses 0", RURAL_LINE_AT + 1, -1, HNHO_PIECE_CROSSES, RURAL_LINE_AT);
+  for (i = 0; i < RURAL_EFFECTS; i++) {
     size_t value = effects_at + 2 * i;
-    call_farm_changed("the mark of another effect", value + 1, i < 3 ? 2 : 1, HNHO_TABLE_LIMIT, value + 1);
-    call_farm_changed("a mark of 0", value + 1, 0, HNHO_TABLE_LIMIT, value + 1);
-    call_farm_changed("a mark of 3", value + 1, 3, HNHO_TABLE_LIMIT, value + 1);
-    call_farm_changed("an effect of 1000000001", value, 1000000001, HNHO_TABLE_LIMIT, value);
-    call_farm_changed("an effect of -1000000001", value, -1000000001, HNHO_TABLE_LIMIT, value);
-    call_farm_changed_twice("an effect and its mark", value, 1000000001, value + 1, 3, HNHO_TABLE_LIMIT, value);
+    call_rural_changed("the mark of another effect", value + 1, i < 3 ? 2 : 1, HNHO_TABLE_LIMIT, value + 1);
+    call_rural_changed("a mark of 0", value + 1, 0, HNHO_TABLE_LIMIT, value + 1);
+    call_rural_changed("a mark of 3", value + 1, 3, HNHO_TABLE_LIMIT, value + 1);
+    call_rural_changed("an effect of 1000000001", value, 1000000001, HNHO_TABLE_LIMIT, value);
+    call_rural_changed("an effect of -1000000001", value, -1000000001, HNHO_TABLE_LIMIT, value);
+    call_rural_changed_twice("an effect and its mark", value, 1000000001, value + 1, 3, HNHO_TABLE_LIMIT, value);
   }
 }
 
-static void farm_jobs(void) {
-  expect_accepted = expect_farm_job;
-  farm_widths();
-  farm_lengths();
-  farm_refusals();
+static void rural_jobs(void) {
+  expect_accepted = expect_rural_job;
+  rural_widths();
+  rural_lengths();
+  rural_refusals();
   expect_accepted = expect_job_a;
 }
 
@@ -773,7 +773,7 @@ static void kinds_without_spans(void) {
                         HNHO_WORD_LEAST_SPAN);
   }
   call_changed("kind 4 in edition 1", HNHO_WORD_DYNAMIC_KIND, HNHO_DYNAMIC_SPANS, HNHO_HEADER_LIMIT, HNHO_WORD_DYNAMIC_KIND);
-  call_farm_changed("kind 4 in edition 4", HNHO_WORD_DYNAMIC_KIND, HNHO_DYNAMIC_SPANS, HNHO_HEADER_LIMIT, HNHO_WORD_DYNAMIC_KIND);
+  call_rural_changed("kind 4 in edition 4", HNHO_WORD_DYNAMIC_KIND, HNHO_DYNAMIC_SPANS, HNHO_HEADER_LIMIT, HNHO_WORD_DYNAMIC_KIND);
 }
 
 /* The line's ordinates at their limits and next to these, left and right: 5000 in edition 2 and 500 in edition 3. */
@@ -1092,7 +1092,7 @@ int main(int argc, char **argv) {
   refusals();
   steep_line();
   wide_ordinates();
-  farm_jobs();
+  rural_jobs();
   newton_jobs();
   two_carriageways();
   printf("host_edges: %d calls answered as due\n", calls);
