@@ -77,7 +77,7 @@ fn limits(s: &[u8], head: Header) -> Finding
     requires { ⌜ (head ≡ headerOf (now s)) × (4 * words head Head ≤ length (now s)) ⌝ }
     ensures { λ r. ⌜ findingOf r ≡ fault2 (now (s .entry)) ⌝ }
 {
-    let own = limits::header_misfit(header::section(s, head), head);
+    let own = headers::header_misfit(header::section(s, head), head);
     match own {
         Fault::At(p) => Finding::At(p as u32),
         Fault::Clear => Finding::Nothing,
@@ -112,7 +112,7 @@ fn width(s: &[u8], head: Header) -> Finding
     requires { ⌜ (head ≡ headerOf (now s)) × Counted head × (4 * words head Head ≤ length (now s)) ⌝ }
     ensures { λ r. ⌜ findingOf r ≡ fault11 (now (s .entry)) ⌝ }
 {
-    let own = limits::width_misfit(header::section(s, head), head);
+    let own = headers::width_misfit(header::section(s, head), head);
     in_job(head, Part::Head, own)
 }
 

@@ -32,8 +32,8 @@ fn line_fits(h: usize, pieces: usize) -> bool
     if 1000 < pieces {
         return false;
     }
-    if limits::length_fits(h as i64) {
-        return limits::pieces_fit(h as i64, pieces as i64);
+    if headers::length_fits(h as i64) {
+        return headers::pieces_fit(h as i64, pieces as i64);
     }
     false
 }
