@@ -62,19 +62,19 @@ static void put_transverse(void) {
 
 /* The effects: the dead load as on a simple span and its thrust's relief, always present; the arch's shortening, and braking. */
 static void put_effects(void) {
-  put_effect(INT64_C(1234567890123), 1);
-  put_effect(INT64_C(-1232098755432), 1);
-  put_effect(INT64_C(-4800000000), 2);
-  put_effect(INT64_C(3000000000), 2);
+  put_effect(INT64_C(1234567890123), HNHO_MARK_ALWAYS);
+  put_effect(INT64_C(-1232098755432), HNHO_MARK_ALWAYS);
+  put_effect(INT64_C(-4800000000), HNHO_MARK_OPTIONAL);
+  put_effect(INT64_C(3000000000), HNHO_MARK_OPTIONAL);
 }
 
 /* A service row with normal traffic; ultimate rows with overload and without traffic. Rows 1 and 3 have records 1, 2 and 3, row 2 has
  * 4, 5, 6 and 3. */
 static void put_table(void) {
   static const int32_t rows[4 * ROWS] = {
-    1, 1, 1350, 1,
-    2, 2, 1490, 4,
-    2, 0, 0, 1
+    HNHO_ROW_SERVICE, HNHO_LIVE_NORMAL, 1350, 1,
+    HNHO_ROW_ULTIMATE, HNHO_LIVE_OVERLOAD, 1490, 4,
+    HNHO_ROW_ULTIMATE, HNHO_LIVE_NONE, 0, 1
   };
   static const int32_t records[3 * RECORDS] = {
     1, 1000, 2,

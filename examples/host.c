@@ -77,9 +77,9 @@ static void put_record(int32_t effect, int32_t factor, int32_t next) {
 /* One effect, always present; a service row with normal traffic and an ultimate row with overload, a record each. */
 static void put_table(void) {
   put(80000); /* kN.U */
-  put(1);
-  put_row(1, 1, 1350, 1);
-  put_row(2, 2, 1500, 2);
+  put(HNHO_MARK_ALWAYS);
+  put_row(HNHO_ROW_SERVICE, HNHO_LIVE_NORMAL, 1350, 1);
+  put_row(HNHO_ROW_ULTIMATE, HNHO_LIVE_OVERLOAD, 1500, 2);
   put_record(1, 1000, 0);
   put_record(1, 1200, 0);
 }
@@ -141,7 +141,7 @@ static void print_position(const char *name, const struct hnho_position *positio
 
 static void print_governing(const char *state, const char *question, const struct hnho_governing *governing) {
   printf("%s %s %" PRId64 " row %" PRId64 ", left out %" PRId64 ", traffic %s", state, question, governing->value, governing->row,
-         governing->left_out, governing->unladen ? "left out" : "counts");
+         governing->left_out, governing->unladen ? "left out" : "not left out");
   if (governing->k != 0) /* row 16 of a farm job: the factor of DL in thousandths */
     printf(", k %" PRId64, governing->k);
   printf("\n");

@@ -70,15 +70,15 @@ static void put_transverse(void) {
 
 /* The effects: dead load, always present, and superimposed dead load. */
 static void put_effects(void) {
-  put_effect(INT64_C(127700000), 1);
-  put_effect(INT64_C(38310000), 2);
+  put_effect(INT64_C(127700000), HNHO_MARK_ALWAYS);
+  put_effect(INT64_C(38310000), HNHO_MARK_OPTIONAL);
 }
 
 /* A service row with normal traffic and an ultimate row with overload, both loads on each. */
 static void put_table(void) {
   static const int32_t rows[4 * ROWS] = {
-    1, 1, 1350, 1,
-    2, 2, 1500, 3
+    HNHO_ROW_SERVICE, HNHO_LIVE_NORMAL, 1350, 1,
+    HNHO_ROW_ULTIMATE, HNHO_LIVE_OVERLOAD, 1500, 3
   };
   static const int32_t records[3 * RECORDS] = {
     1, 1000, 2,

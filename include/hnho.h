@@ -137,6 +137,13 @@ enum hnho_dynamic_kind {
                                      for spans up to 120 dm, beyond that 1000 and 150000 / (span + 380) rounded up */
 };
 
+/* The mark of an effect. */
+enum hnho_mark { HNHO_MARK_ALWAYS = 1, HNHO_MARK_OPTIONAL = 2 /* may be left out */ };
+
+/* The limit state of a row, and its live kind. */
+enum hnho_row_state { HNHO_ROW_SERVICE = 1, HNHO_ROW_ULTIMATE = 2 };
+enum hnho_live_kind { HNHO_LIVE_NONE = 0, HNHO_LIVE_NORMAL = 1, HNHO_LIVE_OVERLOAD = 2 };
+
 /* The words of a job, by place.
  *
  *   0  edition: 1, 2 for effects in N.U or spans by sign, 3 for two carriageways, or 4 for a farm bridge
@@ -160,11 +167,11 @@ enum hnho_dynamic_kind {
  *          the sender's
  *   M + 1  transverse ordinates, M = W / g rounded up: -1000 to 1000 in thousandths, the first at the left kerb
  *   M + 1  in edition 3 only: those of the second carriageway, M by its own width, the first at its own left kerb
- *   2 E    effects: value in kN.U, -1000000000 to 1000000000; 1 always present, 2 may be left out
+ *   2 E    effects: value in kN.U, -1000000000 to 1000000000; mark, of enum hnho_mark
  *   3 E    in editions 2 and 3 instead: value in N.U, -100000000000000 to 100000000000000, in two words, the low half unsigned and
  *          then the high half signed, as hnho_put_wide writes it; the same marks
- *   4 R    rows: 1 service, 2 ultimate; live kind 0 none, 1 normal, 2 overload; live factor 0 to 3000, 0 for kind 0; first record,
- *          0 to C, 0 for none
+ *   4 R    rows: limit state, of enum hnho_row_state; live kind, of enum hnho_live_kind; live factor 0 to 3000, 0 for kind 0; first
+ *          record, 0 to C, 0 for none
  *   3 C    records: effect 1 to E; factor 0 to 3000; next record, 0 to C, 0 for the end of the chain
  * Factors are thousandths. Effects, rows and records count from 1.
  *

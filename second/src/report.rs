@@ -95,7 +95,7 @@ fn governing_lines(name: &str, state: &State) -> String {
         return format!("{name} none\n");
     }
     let line = |question: &str, governing: &Governing| {
-        let traffic = ["counts", "left out"][governing.traffic_left_out as usize];
+        let traffic = ["not left out", "left out"][governing.traffic_left_out as usize];
         let k = match governing.k {
             0 => String::new(),
             k => format!(", k {k}"),

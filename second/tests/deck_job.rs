@@ -74,10 +74,10 @@ overload least -85423988 N.U
   lane 4: HN lowering, centre 5400/4 cm, factor 16
 raising pair at station 4, side left
 lowering pair at station 13, side left
-service greatest 498811123300 row 1, left out 0, traffic counts
-service least 129802515300 row 1, left out 2, traffic counts
-ultimate greatest 757724301000 row 2, left out 0, traffic counts
-ultimate least 109734018000 row 2, left out 2, traffic counts
+service greatest 498811123300 row 1, left out 0, traffic not left out
+service least 129802515300 row 1, left out 2, traffic not left out
+ultimate greatest 757724301000 row 2, left out 0, traffic not left out
+ultimate least 109734018000 row 2, left out 2, traffic not left out
 ";
     assert_eq!(page(&account_of(&deck_job())), expected);
 }

@@ -84,10 +84,10 @@ overload least -21401111 N.U
   lane 5: HN raising, centre 1220/2 cm, factor 18
 raising pair at station 3, side left
 lowering pair at station 10, side left
-service greatest 279231531350 row 1, left out 0, traffic counts
-service least 112240396700 row 1, left out 2, traffic counts
-ultimate greatest 421516390500 row 2, left out 0, traffic counts
-ultimate least 121138333500 row 2, left out 2, traffic counts
+service greatest 279231531350 row 1, left out 0, traffic not left out
+service least 112240396700 row 1, left out 2, traffic not left out
+ultimate greatest 421516390500 row 2, left out 0, traffic not left out
+ultimate least 121138333500 row 2, left out 2, traffic not left out
 ";
     assert_eq!(page(&account_of(&motorway_job())), expected);
 }

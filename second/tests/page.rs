@@ -97,7 +97,7 @@ overload least -34 N.U
 raising pair at station 17, side right
 lowering pair at station -3, side left
 service none
-ultimate greatest 41 row 32, left out 10, traffic counts, k 1300
+ultimate greatest 41 row 32, left out 10, traffic not left out, k 1300
 ultimate least -42 row 1, left out 0, traffic left out
 ";
     assert_eq!(page(&account), expected);
@@ -219,8 +219,8 @@ overload least 0 N.U
   lane 1: HO raising, centre 750/5 cm, factor 0
 raising pair at station 1, side left
 lowering pair at station -1, side left
-service greatest 0 row 1, left out 0, traffic counts
-service least 0 row 1, left out 0, traffic counts
+service greatest 0 row 1, left out 0, traffic not left out
+service least 0 row 1, left out 0, traffic not left out
 ultimate none
 ";
     assert_eq!(page(&account_of(&job)), expected);
