@@ -425,7 +425,7 @@ static size_t pack_rural(uint8_t *job, int32_t width, int32_t barriers) {
 
 /* The farm job at W 300 without barriers, with two words changed. */
 static void call_rural_changed_twice(const char *name, size_t word, int32_t value, size_t other, int32_t other_value, int number,
-                                    uint64_t place) {
+                                     uint64_t place) {
   uint8_t job[4 * RURAL_MOST_WORDS];
   size_t words = pack_rural(job, 300, HNHO_BARRIERS_NONE);
   step = name;
