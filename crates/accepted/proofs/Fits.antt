@@ -14,6 +14,7 @@ use Rattle.exact.specs.declared.Question.{Question}
 use Rattle.words.specs.Words.{wordAt}
 use Rattle.model.specs.Job.{rural, Live, Limit}
 use Rattle.model.specs.Decode.{influenceLine, decode, dynamicValue, effectAt, rowCount, rowOf}
+use Rattle.model.specs.RecordsWalked.{walkedTo, recordsWalked}
 use Rattle.model.specs.Lanes.{lanes}
 use Rattle.model.specs.declared.State.{State}
 use Rattle.model.specs.Dynamic.{dynamicFactor}
@@ -145,12 +146,19 @@ module _ {b : List ℕ} {head : Header} (ready : Ready b head) where
     pub tables-found : TablesFit e r s head
     tables-found = rw (p, q, t) tables
 
-    -- a state found in them is the job's
+    -- what is so of them is so of the job's
+    told : (P : Header → (effects rows records : List ℕ) → Type 0) → P head e r s → P (headerOf b) (sectionOf b Effects) (sectionOf b Rows) (sectionOf b Records)
+    told P f =
+        subst (λ (h : Header). P h (sectionOf b Effects) (sectionOf b Rows) (sectionOf b Records)) (ready .own)
+        (subst (λ (l : List ℕ). P head l (sectionOf b Rows) (sectionOf b Records)) p
+        (subst (λ (l : List ℕ). P head e l (sectionOf b Records)) q (subst (P head e r) t f)))
+
+    -- a state found in them
     pub state-found : (traffic : Question → Live → ℤ) (limit : Limit) (x : State) → StateFound (effectAt (effectUnit (head .edition)) e) (rowOf (profileOf (head .edition)) r s (head .records)) traffic limit (rowCount (profileOf (head .edition)) (head .rows)) x → StateFound (decode b .effect) (decode b .row) traffic limit (decode b .rows) x
     unfolding decode
-    state-found traffic limit x f =
-        let Found : Header → (effects rows records : List ℕ) → Type 0 =
-        λ h e r s. StateFound (effectAt (effectUnit (h .edition)) e) (rowOf (profileOf (h .edition)) r s (h .records)) traffic limit (rowCount (profileOf (h .edition)) (h .rows)) x in
-        subst (λ (h : Header). Found h (sectionOf b Effects) (sectionOf b Rows) (sectionOf b Records)) (ready .own)
-        (subst (λ (l : List ℕ). Found head l (sectionOf b Rows) (sectionOf b Records)) p
-        (subst (λ (l : List ℕ). Found head e l (sectionOf b Records)) q (subst (Found head e r) t f)))
+    state-found traffic limit x = told (λ h e r s. StateFound (effectAt (effectUnit (h .edition)) e) (rowOf (profileOf (h .edition)) r s (h .records)) traffic limit (rowCount (profileOf (h .edition)) (h .rows)) x)
+
+    -- and the records walked
+    pub walked-found : (n : ℕ) → n ≡ walkedTo (profileOf (head .edition)) (rowOf (profileOf (head .edition)) r s (head .records)) (rowCount (profileOf (head .edition)) (head .rows)) → n ≡ recordsWalked (decode b)
+    unfolding decode
+    walked-found n = told (λ h e r s. n ≡ walkedTo (profileOf (h .edition)) (rowOf (profileOf (h .edition)) r s (h .records)) (rowCount (profileOf (h .edition)) (h .rows)))

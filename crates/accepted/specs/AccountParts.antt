@@ -11,6 +11,7 @@ use Rattle.model.specs.Job.{Job, Limit, Live, normal, overload, HasTraffic}
 use Rattle.model.specs.Format.{headerOf}
 use Rattle.model.specs.Refusals.{jobVerdict}
 use Rattle.model.specs.Lanes.{lanesOf, secondLanes}
+use Rattle.model.specs.RecordsWalked.{recordsWalked}
 use Rattle.model.specs.Answered.{positionOf, trafficIn, extremeOf, stateIn, PositionRight}
 use Rattle.model.specs.declared.Sense.{Sense}
 use Rattle.model.specs.declared.Traffic.{Traffic}
@@ -59,3 +60,4 @@ pub record PartsRight (job : Job) (a : Account) : Type 0 where
   pub states : (limit : Limit) → StateOf job a limit (stateIn a limit)
   pub firstCount : a .first ≡ lanesOf (job .deck)
   pub secondCount : a .second ≡ secondLanes job
+  pub walked : a .walked ≡ recordsWalked job

@@ -16,8 +16,10 @@ use rows::state;
 use rows::state::LimitStates;
 use rows::state::LiveBoth;
 use rows::state::LiveValues;
+ghost use mathlib.Core.Path.{_≡_};
 ghost use Rattle.model.specs.Decode.{decode};
 ghost use Rattle.model.specs.Job.{Limit};
+ghost use Rattle.model.specs.RecordsWalked.{recordsWalked};
 ghost use Rattle.line.specs.Sought.{SoughtRight, SensesRight};
 ghost use Rattle.rows.specs.Governed.{trafficOf, LiveFits, stateFor, StateFound};
 ghost use Rattle.accepted.specs.AccountParts.{Ready, ValuesRight, PartsRight};
@@ -84,10 +86,11 @@ fn values(job: &[u8], head: Header, raising: Sought, lowering: Sought) -> Traffi
     }
 }
 
-// Both limit states by the traffic values.
+// Both limit states by the traffic values, and the records walked.
 fn limit_states(job: &[u8], head: Header, live: LiveBoth) -> LimitStates
     requires { ⌜ Ready (now job) head × LiveFits live ⌝ }
     ensures { λ r. ⌜ ((limit : Limit) → StateFound (decode (now (job .entry)) .effect) (decode (now (job .entry)) .row) (trafficOf live) limit (decode (now (job .entry)) .rows) (stateFor limit r)) ⌝ }
+    ensures { λ r. ⌜ r .walked ≡ recordsWalked (decode (now (job .entry))) ⌝ }
 {
     let effects = sections::section(job, head, Part::Effects);
     let rows = sections::section(job, head, Part::Rows);
@@ -136,5 +139,6 @@ pub fn account(job: &[u8], head: Header) -> Account
         ultimate,
         first: v.first,
         second: v.second,
+        walked: states.walked,
     }
 }

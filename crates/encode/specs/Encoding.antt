@@ -1,6 +1,5 @@
 -- An account as bytes: 157 numbers of eight bytes each, one after the other, in the order of `accountNumbers`. Number k starts at byte 8 * k; include/hnho.h names each place.
 -- Sides: 0 left, 1 right. Entries: 0 unloaded, 1 HN raising, 2 HN lowering, 3 HO raising, 4 HO lowering. A lane set has a bit a lane, the effects left out a bit an effect, the first the lowest.
--- A reserved number is 0.
 use Prim.Native.Nat.{ℕ, _*_, _<_, _^_}
 use mathlib.Core.Bool.{Bool, true, false}
 use mathlib.Core.List.{List, [], _∷_, _++_}
@@ -54,9 +53,9 @@ abbrev pub limitNumbers : State → List ℤ
 limitNumbers Absent = pos (stateNumber Absent) ∷ replicate 10 (pos 0)
 limitNumbers (Reported greatest least) = pos (stateNumber (Reported greatest least)) ∷ governingNumbers greatest ++ governingNumbers least
 
--- the lanes of the carriageway and of a second one; the third is reserved
+-- the lanes of the carriageway and of a second one; the records walked
 abbrev pub countNumbers : Account → List ℤ
-countNumbers a = pos (a .first) ∷ pos (a .second) ∷ pos 0 ∷ []
+countNumbers a = pos (a .first) ∷ pos (a .second) ∷ pos (a .walked) ∷ []
 
 -- the numbers of an account; those of its placements are in placements/specs/PlacementNumbers.antt
 abbrev pub accountNumbers : Account → List ℤ
@@ -74,9 +73,10 @@ abbrev pub RowsFit : State → Type 0
 RowsFit Absent = Unit {0}
 RowsFit (Reported greatest least) = (greatest .row < 2 ^ 63) × (least .row < 2 ^ 63)
 
--- both states' rows and the numbers of lanes are read back as they are
+-- both states' rows, the numbers of lanes and the records walked are read back as they are
 pub record CountsFit (a : Account) : Type 0 where
   pub service : RowsFit (a .service)
   pub ultimate : RowsFit (a .ultimate)
   pub first : a .first < 2 ^ 63
   pub second : a .second < 2 ^ 63
+  pub walked : a .walked < 2 ^ 63

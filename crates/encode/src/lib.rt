@@ -108,15 +108,15 @@ fn put_states(out: &mut [u8], at: usize, service: State, ultimate: State) -> usi
     put_state(out, end, ultimate)
 }
 
-// The lanes of each carriageway, and what is reserved.
-fn put_counts(out: &mut [u8], at: usize, first: usize, second: usize) -> usize
+// The lanes of each carriageway, and the records walked.
+fn put_counts(out: &mut [u8], at: usize, first: usize, second: usize, walked: usize) -> usize
     requires { ⌜ at + 24 ≤ length (now out) ⌝ }
-    requires { ⌜ (first < 2 ^ 63) × (second < 2 ^ 63) ⌝ }
-    ensures { λ r. ⌜ Written (now (out .entry)) at (pos first ∷ pos second ∷ pos 0 ∷ []) (now (out .exit)) r ⌝ }
+    requires { ⌜ (first < 2 ^ 63) × (second < 2 ^ 63) × (walked < 2 ^ 63) ⌝ }
+    ensures { λ r. ⌜ Written (now (out .entry)) at (pos first ∷ pos second ∷ pos walked ∷ []) (now (out .exit)) r ⌝ }
 {
     let mut end = numbers::put_count(out, at, first as u64);
     end = numbers::put_count(out, end, second as u64);
-    numbers::put_zeros(out, end, 1)
+    numbers::put_count(out, end, walked as u64)
 }
 
 // The bytes of an account at the front of a buffer; the rest keeps its contents.
@@ -134,5 +134,5 @@ pub fn write(out: &mut [u8], a: Account)
     end = placements::put_placements(out, end, normal);
     end = placements::put_placements(out, end, overload);
     end = put_states(out, end, service, ultimate);
-    put_counts(out, end, a.first, a.second);
+    put_counts(out, end, a.first, a.second, a.walked);
 }

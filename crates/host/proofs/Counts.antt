@@ -1,4 +1,4 @@
--- The counts of an answer's account are small: a row is one of the job's, and a carriageway has at most five lanes.
+-- The counts of an answer's account are small: a row is one of the job's, a carriageway has at most five lanes, and the records walked are at most R times E.
 use mathlib.Core.Path.{sym, subst}
 use mathlib.Core.List.{List}
 use Prim.Native.Nat.{ℕ, _≤_}
@@ -14,6 +14,7 @@ use Rattle.model.specs.declared.State.the-variants.{Absent, Reported}
 use Rattle.model.proofs.Verdict.{clear, job-accepted}
 use Rattle.model.proofs.HeaderLimits.{HeaderFits, header-fits}
 use Rattle.model.proofs.Lanes.{lane-count, second-few}
+use Rattle.rows.proofs.RecordsWalked.{walked-512}
 use Rattle.encode.specs.Encoding.{RowsFit, CountsFit}
 
 module _ (job : Job) (patch : List ℕ) (a : Account) (few : job .rows ≤ 32) where
@@ -29,7 +30,7 @@ few-rows rural h = omega arith
 pub counts-fit : {b before after : List ℕ} {x : Answer} → Answered b before x after → CountsFit (x .account)
 unfolding decode
 counts-fit (refused r v u p) =
-    subst (λ (y : Answer). CountsFit (y .account)) (sym u) (record { service = tt; ultimate = tt; first = omega arith; second = omega arith })
+    subst (λ (y : Answer). CountsFit (y .account)) (sym u) (record { service = tt; ultimate = tt; first = omega arith; second = omega arith; walked = omega arith })
 counts-fit {b} {before} {after} {x} (accepted v r) =
     let n = lane-count (decode b .deck .width) in
     let m = second-few (decode b) in
@@ -38,6 +39,7 @@ counts-fit {b} {before} {after} {x} (accepted v r) =
       ultimate = row ultimate;
       first = omega (arith, r .account .firstCount);
       second = omega (arith, r .account .secondCount);
+      walked = omega (arith, r .account .walked, walked-512 b (job-accepted b _ v));
     }
   where
     header : HeaderFits b

@@ -49,6 +49,7 @@ account-right job signed spaced rest a p = record {
   states = λ limit. state-right job patch a limit signed spaced (trafficOf (reportedLive a)) (stateIn a limit) (given limit) (p .states limit);
   firstCount = p .firstCount;
   secondCount = p .secondCount;
+  walked = p .walked;
 }
   where
     patch : List ℕ

@@ -54,6 +54,7 @@ const ZERO_ACCOUNT: Account = Account {
     ultimate: State::Absent,
     first: 0,
     second: 0,
+    walked: 0,
 };
 
 // The answer of a refusal.

@@ -66,8 +66,9 @@ pub record HeaderFits (b : List ℕ) : Type 0 where
   pub effects : Count 0 16 (wordAt b 7)
   pub rows : Count 0 32 (wordAt b 8)
   pub records : Count 0 512 (wordAt b 9)
-  -- a rural bridge's eleven effects
+  -- a rural bridge's eleven effects, and no rows of its own
   pub eleven : profileOf (headerOf b .edition) ≡ rural → countAt b 7 ≡ 11
+  pub unlisted : profileOf (headerOf b .edition) ≡ rural → countAt b 8 ≡ 0
   pub carriageways : Carriageways b
 
 not-rural : highway ≡ rural → ⊥
@@ -114,7 +115,8 @@ header-fits b e =
       effects = counts .0;
       rows = counts .1;
       records = counts .2;
-      eleven = counts .3;
+      eleven = λ e. counts .3 e .0;
+      unlisted = λ e. counts .3 e .1;
       carriageways = sides (headerOf b .edition) refl;
     }
   where
@@ -184,24 +186,25 @@ header-fits b e =
         (λ _. d)
 
     -- words 7, 8 and 9, by edition
-    counts : Count 0 16 (wordAt b 7) × Count 0 32 (wordAt b 8) × Count 0 512 (wordAt b 9) × (profileOf (headerOf b .edition) ≡ rural → countAt b 7 ≡ 11)
+    counts : Count 0 16 (wordAt b 7) × Count 0 32 (wordAt b 8) × Count 0 512 (wordAt b 9) × (profileOf (headerOf b .edition) ≡ rural → (countAt b 7 ≡ 11) × (countAt b 8 ≡ 0))
     counts = go (headerOf b .edition) (field 7 (omega arith)) (field 8 (omega arith)) (field 9 (omega arith))
       where
         Admits : Edition → ℕ → ℤ → Type 0
         Admits e j x = getD (tableCounts e) j free (itemFrom (sectionOf b Head) 0 0) x ≡ true
 
         listed : between (pos 0) (pos 16) (wordAt (sectionOf b Head) 7) ≡ true → between (pos 1) (pos 32) (wordAt (sectionOf b Head) 8) ≡ true → between (pos 0) (pos 512) (wordAt (sectionOf b Head) 9) ≡ true →
-            Count 0 16 (wordAt b 7) × Count 0 32 (wordAt b 8) × Count 0 512 (wordAt b 9) × (highway ≡ rural → countAt b 7 ≡ 11)
+            Count 0 16 (wordAt b 7) × Count 0 32 (wordAt b 8) × Count 0 512 (wordAt b 9) × (highway ≡ rural → (countAt b 7 ≡ 11) × (countAt b 8 ≡ 0))
         listed x y z = (count 7 0 16 (omega arith) x, wider (count 8 1 32 (omega arith) y) (omega arith) (omega arith), count 9 0 512 (omega arith) z, λ n. absurd (not-rural n))
 
         go : (e : Edition) → Admits e 0 (wordAt (sectionOf b Head) 7) → Admits e 1 (wordAt (sectionOf b Head) 8) → Admits e 2 (wordAt (sectionOf b Head) 9) →
-            Count 0 16 (wordAt b 7) × Count 0 32 (wordAt b 8) × Count 0 512 (wordAt b 9) × (profileOf e ≡ rural → countAt b 7 ≡ 11)
+            Count 0 16 (wordAt b 7) × Count 0 32 (wordAt b 8) × Count 0 512 (wordAt b 9) × (profileOf e ≡ rural → (countAt b 7 ≡ 11) × (countAt b 8 ≡ 0))
         go First x y z = listed x y z
         go Second x y z = listed x y z
         go Third x y z = listed x y z
         go Fourth x y z =
             let eleven = count 7 11 11 (omega arith) x in
-            (wider eleven (omega arith) (omega arith), wider (count 8 0 0 (omega arith) y) (omega arith) (omega arith), wider (count 9 0 0 (omega arith) z) (omega arith) (omega arith), λ _. omega (arith, eleven .least, eleven .most))
+            let unlisted = count 8 0 0 (omega arith) y in
+            (wider eleven (omega arith) (omega arith), wider unlisted (omega arith) (omega arith), wider (count 9 0 0 (omega arith) z) (omega arith) (omega arith), λ _. (omega (arith, eleven .least, eleven .most), omega (arith, unlisted .most)))
 
     product : {x y : ℤ} {m n : ℕ} → x ≡ pos m → y ≡ pos n → (x *ℤ y) ≤ℤ pos 1000 → m * n ≤ 1000
     product {x} {y} {m} {n} e f h = omega (arith, ≤→ℕ (subst (λ (z : ℤ). (pos m *ℤ z) ≤ℤ pos 1000) f (subst (λ (z : ℤ). (z *ℤ y) ≤ℤ pos 1000) e h)))

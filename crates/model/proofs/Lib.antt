@@ -13,6 +13,7 @@ pub mod HeaderLimits
 pub mod LineLimits
 pub mod TrainLimits
 pub mod TableLimits
+pub mod RecordsWalked
 pub mod RefusalNumbers
 pub mod Accepted
 pub mod Lanes

@@ -9,6 +9,7 @@ pub mod Line
 pub mod Lanes
 pub mod Traffic
 pub mod Rows
+pub mod RecordsWalked
 pub mod Trains
 pub mod Arrangements
 pub mod Numbers

@@ -1,4 +1,4 @@
-mod Few
+pub mod Few
 pub mod Terms
-mod Omissions
+pub mod Omissions
 mod Groups

@@ -11,7 +11,7 @@ use lib.Dec.{eqb}
 use lib.IntN.{ℤ, pos, _+ℤ_}
 use lib.ListN.{length}
 use lib.Pow.{pow-pos, pow-lt, pow-add, shl-shr}
-use Rattle.model.specs.Format.{EffectUnit, bytes}
+use Rattle.model.specs.Format.{bytes}
 use Rattle.model.specs.declared.Part.the-variants.{Records}
 use borrow.Author.Tests.{eqb-true, eq-eqb, ne-eqb}
 use Rattle.exact.specs.Bounds.{Within}
@@ -23,7 +23,7 @@ use Rattle.exact.proofs.Bridge.{by-test}
 use Rattle.exact.proofs.Extremes.{better-first, better-second}
 use Rattle.exact.proofs.Ring.{_⊕_, lit, _≐_, solve}
 use Rattle.magnitudes.specs.Magnitudes.{shareMost, chainMost}
-use Rattle.model.specs.Chains.{chainFrom, nextRecord}
+use Rattle.model.specs.Chains.{recordEffect, nextRecord, chainFrom}
 use Rattle.model.specs.Decode.{termsFrom}
 use Rattle.model.specs.Job.{Effect, Term}
 use Rattle.model.specs.Lanes.{bit}
@@ -31,7 +31,7 @@ use Rattle.model.specs.Rows.{share, names, bestChain}
 use Rattle.model.specs.Answered.{omits}
 use Rattle.omissions.proofs.Few.{few}
 use Rattle.model.proofs.States.{SuitsAll, suits-share, chain-attained}
-use Rattle.omissions.specs.ChainTables.{Distinct, NamesTo, RecordsInTables}
+use Rattle.omissions.specs.ChainTables.{Distinct, NamesTo}
 use Rattle.omissions.specs.declared.Share.{Share}
 use Rattle.omissions.specs.declared.Chained.{Chained}
 use Rattle.omissions.specs.Chained.{termAt, ShareRight, leavesShare, extendedBy, ChainRight}
@@ -86,11 +86,13 @@ names-first t l = ap (λ (b : Bool). b || names l (t .effect)) (eq-eqb (t .effec
 names-later : (t : Term) (l : List Term) (e : ℕ) → names l e ≡ true → names (t ∷ l) e ≡ true
 names-later t l e n = ap (λ (b : Bool). eqb (t .effect) e || b) n ∙ or-true (eqb (t .effect) e)
 
-pub terms-named : (unit : EffectUnit) (effects s : List ℕ) → RecordsInTables unit effects s → (most c : ℕ) → bytes Records * c ≤ length s → NamesTo 16 (termsFrom s most c)
+-- where every record names one of effects 1 .. n, so do a chain's terms
+pub terms-named : (n : ℕ) (s : List ℕ) → ((c : ℕ) → 1 ≤ c → bytes Records * c ≤ length s → (1 ≤ recordEffect s c) × (recordEffect s c ≤ n) × (bytes Records * nextRecord s c ≤ length s)) →
+    (most c : ℕ) → bytes Records * c ≤ length s → NamesTo n (termsFrom s most c)
 unfolding chainFrom
-terms-named unit effects s fits zero c h = tt
-terms-named unit effects s fits (suc most) zero h = tt
-terms-named unit effects s fits (suc most) (suc c) h = let f = fits (suc c) (omega arith) h in (f .effect, f .most, terms-named unit effects s fits most (nextRecord s (suc c)) (f .next))
+terms-named n s fits zero c h = tt
+terms-named n s fits (suc most) zero h = tt
+terms-named n s fits (suc most) (suc c) h = let f = fits (suc c) (omega arith) h in (f .0, f .1, terms-named n s fits most (nextRecord s (suc c)) (f .2))
 
 module _ (q : Question) (effect : ℕ → Effect) where
   -- the term may be left out, and that is better

@@ -136,16 +136,17 @@ pub struct ChainedBoth {
     pub least: Chained,
 }
 
-// The best of the chain from a first record, of at most so many records.
-pub fn best(
-    effects: &[u8],
-    edition: Edition,
-    records: &[u8],
-    first: usize,
-    count: usize,
-) -> ChainedBoth
+// A chain of records: its best for each question, and how many records it has.
+pub struct Walked {
+    pub best: ChainedBoth,
+    pub records: usize,
+}
+
+// The best of the chain from a first record, of at most so many records, and how many it has.
+pub fn best(effects: &[u8], edition: Edition, records: &[u8], first: usize, count: usize) -> Walked
     requires { ⌜ EffectsInReach (effectUnit edition) (now effects) × RecordsInTables (effectUnit edition) (now effects) (now records) × (bytes Records * first ≤ length (now records)) × Distinct (termsFrom (now records) count first) ⌝ }
-    ensures { λ r. ⌜ ((q : Question) → ChainRight q (effectAt (effectUnit edition) (now (effects .entry))) (termsFrom (now (records .entry)) count first) (chainFor q r)) ⌝ }
+    ensures { λ r. ⌜ ((q : Question) → ChainRight q (effectAt (effectUnit edition) (now (effects .entry))) (termsFrom (now (records .entry)) count first) (chainFor q (r .best))) ⌝ }
+    ensures { λ r. ⌜ r .records ≡ length (termsFrom (now (records .entry)) count first) ⌝ }
 {
     let mut greatest = Chained {
         value: 0,
@@ -156,9 +157,12 @@ pub fn best(
         omitted: 0,
     };
     let mut c = first;
-    for _ in 0..count {
+    for i in 0..count {
         if c == 0 {
-            return ChainedBoth { greatest, least };
+            return Walked {
+                best: ChainedBoth { greatest, least },
+                records: i,
+            };
         }
         let e = chains::effect(records, c);
         let own = share_of(effects, edition, e, chains::factor(records, c));
@@ -166,7 +170,10 @@ pub fn best(
         least = extended(Question::Least, own, least);
         c = chains::next(records, c);
     }
-    ChainedBoth { greatest, least }
+    Walked {
+        best: ChainedBoth { greatest, least },
+        records: count,
+    }
 }
 
 // The best of the chain of a line of the table of rural bridges' factors; a share of factor 0 changes nothing.

@@ -19,6 +19,7 @@ use Rattle.model.specs.Rows.{bestRow, Governs, laterIfBetter, isOf, governing}
 use Rattle.model.specs.declared.Governing.{Governing}
 use Rattle.model.specs.declared.State.the-variants.{Absent, Reported}
 use Rattle.rows.specs.declared.state.RowBoth.{RowBoth}
+use Rattle.rows.specs.declared.state.RowWalked.{RowWalked}
 use Rattle.rows.specs.declared.state.Found.{Found}
 use Rattle.rows.specs.Governed.{RowRight, rowFor, governs, governed, found, laterRow, withRow, RowFound, FoundRight, stateBy, StateFound}
 
@@ -78,11 +79,11 @@ by-limit P s u ultimate = u
 
 -- ---- each state for each question
 module _ (effect : ℕ → Effect) (row : ℕ → Row) (traffic : Question → Live → ℤ) where
-  pub found-none : (x : Governing) → x .row ≡ 0 → let none : RowBoth = record { greatest = x; least = x } in FoundRight effect row traffic 0 (record { service = none; ultimate = none })
-  found-none x e service = by-question _ (leads-none Greatest effect row (traffic Greatest) service x e) (leads-none Least effect row (traffic Least) service x e)
-  found-none x e ultimate = by-question _ (leads-none Greatest effect row (traffic Greatest) ultimate x e) (leads-none Least effect row (traffic Least) ultimate x e)
+  pub found-none : (x : Governing) (walked : ℕ) → x .row ≡ 0 → let none : RowBoth = record { greatest = x; least = x } in FoundRight effect row traffic 0 (record { service = none; ultimate = none; walked = walked })
+  found-none x walked e service = by-question _ (leads-none Greatest effect row (traffic Greatest) service x e) (leads-none Least effect row (traffic Least) service x e)
+  found-none x walked e ultimate = by-question _ (leads-none Greatest effect row (traffic Greatest) ultimate x e) (leads-none Least effect row (traffic Least) ultimate x e)
 
-  found-more : (n : ℕ) (b : Bool) (x : Found) (next : RowBoth) → row (suc n) .limit ≡ (if b then service else ultimate) → ((q : Question) → (rowFor q next .row ≡ suc n) × RowRight q effect row (traffic q) (rowFor q next)) →
+  found-more : (n : ℕ) (b : Bool) (x : Found) (next : RowWalked) → row (suc n) .limit ≡ (if b then service else ultimate) → ((q : Question) → (rowFor q (next .best) .row ≡ suc n) × RowRight q effect row (traffic q) (rowFor q (next .best))) →
       FoundRight effect row traffic n x → FoundRight effect row traffic (suc n) (withRow b x next)
   found-more n b x next of right f = go b of
     where
@@ -98,9 +99,9 @@ module _ (effect : ℕ → Effect) (row : ℕ → Row) (traffic : Question → L
       go false of ultimate Least = leads-row Least effect row (traffic Least) ultimate n _ _ (is ultimate of) (f ultimate Least) (right Least .0) (right Least .1)
 
   -- as the code counts
-  pub found-next : (n : ℕ) (b : Bool) (x : Found) (next : RowBoth) → row (n + 1) .limit ≡ (if b then service else ultimate) → ((q : Question) → (rowFor q next .row ≡ n + 1) × RowRight q effect row (traffic q) (rowFor q next)) →
+  pub found-next : (n : ℕ) (b : Bool) (x : Found) (next : RowWalked) → row (n + 1) .limit ≡ (if b then service else ultimate) → ((q : Question) → (rowFor q (next .best) .row ≡ n + 1) × RowRight q effect row (traffic q) (rowFor q (next .best))) →
       FoundRight effect row traffic n x → FoundRight effect row traffic (n + 1) (withRow b x next)
-  found-next n b x next = subst (λ (k : ℕ). row k .limit ≡ (if b then service else ultimate) → ((q : Question) → (rowFor q next .row ≡ k) × RowRight q effect row (traffic q) (rowFor q next)) → FoundRight effect row traffic n x → FoundRight effect row traffic k (withRow b x next)) (sym (add-one n)) (found-more n b x next)
+  found-next n b x next = subst (λ (k : ℕ). row k .limit ≡ (if b then service else ultimate) → ((q : Question) → (rowFor q (next .best) .row ≡ k) × RowRight q effect row (traffic q) (rowFor q (next .best))) → FoundRight effect row traffic n x → FoundRight effect row traffic k (withRow b x next)) (sym (add-one n)) (found-more n b x next)
 
 -- ---- a state's two questions have a row or none together
 abbrev has : Option Governs → Bool

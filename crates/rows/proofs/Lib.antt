@@ -3,3 +3,4 @@ mod BuiltIn
 pub mod Choosing
 pub mod Sections
 pub mod LimitStates
+pub mod RecordsWalked

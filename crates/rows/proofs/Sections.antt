@@ -35,7 +35,7 @@ module _ (b : List ℕ) (accepted : jobVerdict b ≡ none) where
   abbrev unit : EffectUnit
   unit = effectUnit (headerOf b .edition)
 
-  inside : (e : ℕ) → (effectBytes unit * e ≤ length (sectionOf b Effects) → e ≤ headerOf b .effects) × (e ≤ headerOf b .effects → effectBytes unit * e ≤ length (sectionOf b Effects))
+  pub inside : (e : ℕ) → (effectBytes unit * e ≤ length (sectionOf b Effects) → e ≤ headerOf b .effects) × (e ≤ headerOf b .effects → effectBytes unit * e ≤ length (sectionOf b Effects))
   inside e = rw (long Effects) (effect-inside unit (profileOf (headerOf b .edition)) (headerOf b .effects) e)
 
   effects : EffectsInReach unit (sectionOf b Effects)
@@ -71,4 +71,4 @@ module _ (b : List ℕ) (accepted : jobVerdict b ≡ none) where
   eleven e = inside 11 .1 (omega (arith, header-fits b (c .c2) .eleven e))
 
   pub tables-fit : TablesFit (sectionOf b Effects) (sectionOf b Rows) (sectionOf b Records) (headerOf b)
-  tables-fit = record { effects = effects; records = records; long = omega (arith, long Rows); rows = rows; eleven = eleven }
+  tables-fit = record { effects = effects; records = records; long = omega (arith, long Rows); few = header-fits b (c .c2) .rows .most; rows = rows; eleven = eleven }

@@ -1,5 +1,5 @@
 -- What a row's best value, and a limit state's, come with.
-use Prim.Native.Nat.{ℕ, _≤_}
+use Prim.Native.Nat.{ℕ, _+_, _≤_}
 use mathlib.Core.Path.{_≡_}
 use mathlib.Core.Bool.{Bool, true, false}
 use mathlib.Core.Option.{Option, none, some}
@@ -21,6 +21,7 @@ use Rattle.omissions.specs.declared.Chained.{Chained}
 use Rattle.rows.specs.declared.state.LiveValues.{LiveValues}
 use Rattle.rows.specs.declared.state.LiveBoth.{LiveBoth}
 use Rattle.rows.specs.declared.state.RowBoth.{RowBoth}
+use Rattle.rows.specs.declared.state.RowWalked.{RowWalked}
 use Rattle.rows.specs.declared.state.Found.{Found}
 use Rattle.rows.specs.declared.state.LimitStates.{LimitStates}
 
@@ -98,9 +99,9 @@ abbrev pub laterRows : RowBoth → RowBoth → RowBoth
 laterRows sofar next = record { greatest = laterRow Greatest (sofar .greatest) (next .greatest); least = laterRow Least (sofar .least) (next .least) }
 
 -- a row of the service state, or of the ultimate, more
-abbrev pub withRow : Bool → Found → RowBoth → Found
-withRow true x next = record { service = laterRows (x .service) next; ultimate = x .ultimate }
-withRow false x next = record { service = x .service; ultimate = laterRows (x .ultimate) next }
+abbrev pub withRow : Bool → Found → RowWalked → Found
+withRow true x next = record { service = laterRows (x .service) (next .best); ultimate = x .ultimate; walked = x .walked + next .records }
+withRow false x next = record { service = x .service; ultimate = laterRows (x .ultimate) (next .best); walked = x .walked + next .records }
 
 -- a limit state's rows
 abbrev pub foundFor : Limit → Found → RowBoth

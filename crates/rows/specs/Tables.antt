@@ -23,5 +23,6 @@ pub record TablesFit (e w s : List ℕ) (head : Header) : Type 0 where
   pub effects : EffectsInReach (effectUnit (head .edition)) e
   pub records : RecordsInTables (effectUnit (head .edition)) e s
   pub long : bytes Rows * head .rows ≤ length w
+  pub few : head .rows ≤ 32
   pub rows : (r : ℕ) → 1 ≤ r → r ≤ head .rows → RowInTables s (head .records) w r
   pub eleven : profileOf (head .edition) ≡ rural → effectBytes (effectUnit (head .edition)) * 11 ≤ length e

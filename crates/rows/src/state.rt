@@ -19,7 +19,8 @@ ghost use Rattle.model.specs.declared.Part.the-variants.{Rows};
 ghost use Rattle.magnitudes.specs.Magnitudes.{trafficMost, chainMost, loadMost};
 ghost use Rattle.words.specs.Words.{countAt};
 ghost use Rattle.model.specs.Decode.{effectAt, liveOf, firstRecord, rowAt, rowCount, rowOf};
-ghost use Rattle.model.specs.Job.{Limit, service, ultimate};
+ghost use Rattle.model.specs.Job.{Limit, service, ultimate, highway};
+ghost use Rattle.model.specs.RecordsWalked.{chainLength, walkedTo};
 ghost use Rattle.model.specs.RuralBridges.{groupRows, groupRow};
 ghost use Rattle.groups.specs.FactorLines.{lineRow, lineAlternative};
 ghost use Rattle.omissions.specs.ChainTables.{EffectsInReach, RecordsInTables};
@@ -118,7 +119,13 @@ fn first_record(rows: &[u8], r: usize) -> usize
     word(rows, r, 3)
 }
 
-// Row r of the row section at its best for each question; it shows no k.
+// A row at its best for each question, and how many records its chain has.
+pub struct RowWalked {
+    pub best: RowBoth,
+    pub records: usize,
+}
+
+// Row r of the row section; it shows no k.
 fn listed(
     effects: &[u8],
     rows: &[u8],
@@ -126,9 +133,10 @@ fn listed(
     head: Header,
     live: LiveBoth,
     r: usize,
-) -> RowBoth
+) -> RowWalked
     requires { ⌜ EffectsInReach (effectUnit (head .edition)) (now effects) × RecordsInTables (effectUnit (head .edition)) (now effects) (now records) × (1 ≤ r) × (bytes Rows * r ≤ length (now rows)) × RowInTables (now records) (head .records) (now rows) r × LiveFits live ⌝ }
-    ensures { λ x. ⌜ ((q : Question) → (rowFor q x .row ≡ r) × RowRight q (effectAt (effectUnit (head .edition)) (now (effects .entry))) (rowAt (now (rows .entry)) (now (records .entry)) (head .records)) (trafficOf live q) (rowFor q x)) ⌝ }
+    ensures { λ x. ⌜ ((q : Question) → (rowFor q (x .best) .row ≡ r) × RowRight q (effectAt (effectUnit (head .edition)) (now (effects .entry))) (rowAt (now (rows .entry)) (now (records .entry)) (head .records)) (trafficOf live q) (rowFor q (x .best))) ⌝ }
+    ensures { λ x. ⌜ x .records ≡ chainLength highway (rowAt (now (rows .entry)) (now (records .entry)) (head .records) r) ⌝ }
 {
     let edition = head.edition;
     let c = omissions::best(
@@ -140,7 +148,11 @@ fn listed(
     );
     let most = loaded(rows, r, live.greatest);
     let least = loaded(rows, r, live.least);
-    laden_both(r, 0, c, most, least)
+    let chains = c.best;
+    RowWalked {
+        best: laden_both(r, 0, chains, most, least),
+        records: c.records,
+    }
 }
 
 // The later row if it beats the earlier, or if there is none.
@@ -199,7 +211,7 @@ fn built_in(effects: &[u8], live: LiveBoth, r: usize) -> RowBoth
     by_line(effects, r - 1, r, 0, live)
 }
 
-// Row r of the job at its best for each question.
+// Row r of the job; a built-in row has no records.
 fn row(
     effects: &[u8],
     rows: &[u8],
@@ -207,9 +219,10 @@ fn row(
     head: Header,
     live: LiveBoth,
     r: usize,
-) -> RowBoth
+) -> RowWalked
     requires { ⌜ TablesFit (now effects) (now rows) (now records) head × (1 ≤ r) × (r ≤ rowCount (profileOf (head .edition)) (head .rows)) × LiveFits live ⌝ }
-    ensures { λ x. ⌜ ((q : Question) → (rowFor q x .row ≡ r) × RowRight q (effectAt (effectUnit (head .edition)) (now (effects .entry))) (rowOf (profileOf (head .edition)) (now (rows .entry)) (now (records .entry)) (head .records)) (trafficOf live q) (rowFor q x)) ⌝ }
+    ensures { λ x. ⌜ ((q : Question) → (rowFor q (x .best) .row ≡ r) × RowRight q (effectAt (effectUnit (head .edition)) (now (effects .entry))) (rowOf (profileOf (head .edition)) (now (rows .entry)) (now (records .entry)) (head .records)) (trafficOf live q) (rowFor q (x .best))) ⌝ }
+    ensures { λ x. ⌜ x .records ≡ chainLength (profileOf (head .edition)) (rowOf (profileOf (head .edition)) (now (rows .entry)) (now (records .entry)) (head .records) r) ⌝ }
 {
     let edition = head.edition;
     match edition {
@@ -221,31 +234,43 @@ fn row(
             live,
             r,
         ),
-        Edition::Fourth => built_in(effects, live, r),
+        Edition::Fourth => RowWalked {
+            best: built_in(effects, live, r),
+            records: 0,
+        },
     }
 }
 
-// The governing rows so far, of each limit state for each question.
+// The governing rows so far, of each limit state for each question, and the records walked.
 pub struct Found {
     pub service: RowBoth,
     pub ultimate: RowBoth,
+    pub walked: usize,
 }
 
 // What is found with one row more, which is of the service state or of the ultimate.
-fn with_row(service: bool, sofar: Found, next: RowBoth) -> Found
-    ensures { λ x. ⌜ x ≡ withRow service sofar next ⌝ }
+fn with_row(served: bool, sofar: Found, next: RowWalked) -> Found
+    requires { ⌜ sofar .walked + next .records ≤ 512 ⌝ }
+    ensures { λ x. ⌜ x ≡ withRow served sofar next ⌝ }
 {
-    let served = sofar.service;
+    let service = sofar.service;
     let ultimate = sofar.ultimate;
-    if service {
+    let before = sofar.walked;
+    let row = next.best;
+    let walked = before + next.records;
+    if served {
+        let service = later_both(service, row);
         return Found {
-            service: later_both(served, next),
+            service,
             ultimate,
+            walked,
         };
     }
+    let ultimate = later_both(ultimate, row);
     Found {
-        service: served,
-        ultimate: later_both(ultimate, next),
+        service,
+        ultimate,
+        walked,
     }
 }
 
@@ -272,10 +297,11 @@ fn row_count(head: Header) -> usize
     }
 }
 
-// The governing rows among all of the job's.
+// The governing rows among all of the job's, and the records walked.
 fn governing(effects: &[u8], rows: &[u8], records: &[u8], head: Header, live: LiveBoth) -> Found
     requires { ⌜ TablesFit (now effects) (now rows) (now records) head × LiveFits live ⌝ }
     ensures { λ x. ⌜ FoundRight (effectAt (effectUnit (head .edition)) (now (effects .entry))) (rowOf (profileOf (head .edition)) (now (rows .entry)) (now (records .entry)) (head .records)) (trafficOf live) (rowCount (profileOf (head .edition)) (head .rows)) x ⌝ }
+    ensures { λ x. ⌜ x .walked ≡ walkedTo (profileOf (head .edition)) (rowOf (profileOf (head .edition)) (now (rows .entry)) (now (records .entry)) (head .records)) (rowCount (profileOf (head .edition)) (head .rows)) ⌝ }
 {
     let none = Governing {
         value: 0,
@@ -291,6 +317,7 @@ fn governing(effects: &[u8], rows: &[u8], records: &[u8], head: Header, live: Li
     let mut found = Found {
         service: nothing,
         ultimate: nothing,
+        walked: 0,
     };
     let n = row_count(head);
     for i in 0..n {
@@ -312,13 +339,14 @@ fn state(rows: RowBoth) -> State
     State::Reported { greatest, least }
 }
 
-// The two limit states.
+// The two limit states, and the records walked.
 pub struct LimitStates {
     pub service: State,
     pub ultimate: State,
+    pub walked: usize,
 }
 
-// The limit states of a job.
+// The limit states of a job, and the records walked.
 pub fn states(
     effects: &[u8],
     rows: &[u8],
@@ -328,6 +356,7 @@ pub fn states(
 ) -> LimitStates
     requires { ⌜ TablesFit (now effects) (now rows) (now records) head × LiveFits live ⌝ }
     ensures { λ s. ⌜ ((limit : Limit) → StateFound (effectAt (effectUnit (head .edition)) (now (effects .entry))) (rowOf (profileOf (head .edition)) (now (rows .entry)) (now (records .entry)) (head .records)) (trafficOf live) limit (rowCount (profileOf (head .edition)) (head .rows)) (stateFor limit s)) ⌝ }
+    ensures { λ s. ⌜ s .walked ≡ walkedTo (profileOf (head .edition)) (rowOf (profileOf (head .edition)) (now (rows .entry)) (now (records .entry)) (head .records)) (rowCount (profileOf (head .edition)) (head .rows)) ⌝ }
 {
     let found = governing(effects, rows, records, head, live);
     let served = found.service;
@@ -335,5 +364,6 @@ pub fn states(
     LimitStates {
         service: state(served),
         ultimate: state(ultimate),
+        walked: found.walked,
     }
 }

@@ -7,6 +7,7 @@ use Rattle.exact.proofs.Extremes.{by-question}
 use Rattle.model.specs.Job.{Job, Limit, service, ultimate, Live, normal, overload, HasTraffic}
 use Rattle.model.specs.Decode.{decode}
 use Rattle.model.specs.Lanes.{lanesOf, secondLanes}
+use Rattle.model.specs.RecordsWalked.{recordsWalked}
 use Rattle.model.specs.Answered.{positionOf, trafficIn, extremeOf, stateIn, PositionRight}
 use Rattle.model.specs.declared.Account.{Account}
 use Rattle.model.specs.declared.Sense.{Sense}
@@ -49,12 +50,12 @@ module _ (c : tie.After-limit-states) where
   handed limit =
       let v = made (c .before) .values .ensures in
       subst (λ (l : LiveBoth). StateFound (decode b .effect) (decode b .row) (trafficOf l) limit (decode b .rows) (stateFor limit (c .limit-states .result)))
-      (live-back (v .normal .near Greatest) (v .overload .near Greatest) (v .normal .near Least) (v .overload .near Least)) (c .limit-states .ensures limit)
+      (live-back (v .normal .near Greatest) (v .overload .near Greatest) (v .normal .near Least) (v .overload .near Least)) (c .limit-states .ensures .0 limit)
 
 -- each kind's values, each sense's position and each limit state make the parts of an account
 parts : {job : Job} {a : Account} → TrafficFound job normal (a .normal) → TrafficFound job overload (a .overload) → PositionRight (job .line) Raising (a .raising) → PositionRight (job .line) Lowering (a .lowering) →
-    StateOf job a service (a .service) → StateOf job a ultimate (a .ultimate) → a .first ≡ lanesOf (job .deck) → a .second ≡ secondLanes job → PartsRight job a
-parts {job} {a} n o r l s u count second = record { traffic = placed; positions = positions; states = by-limit (λ limit. StateOf job a limit (stateIn a limit)) s u; firstCount = count; secondCount = second }
+    StateOf job a service (a .service) → StateOf job a ultimate (a .ultimate) → a .first ≡ lanesOf (job .deck) → a .second ≡ secondLanes job → a .walked ≡ recordsWalked job → PartsRight job a
+parts {job} {a} n o r l s u count second walked = record { traffic = placed; positions = positions; states = by-limit (λ limit. StateOf job a limit (stateIn a limit)) s u; firstCount = count; secondCount = second; walked = walked }
   where
     placed : (q : Question) (live : Live) → HasTraffic live → TrafficPlaced q job live (extremeOf q (trafficIn a live))
     placed q normal h = n .placed q
@@ -70,7 +71,7 @@ returns c =
     let made = made (found .before) in
     let v = made .values .ensures in
     let sought = made .before .before .before .sought .ensures in
-    parts (v .normal) (v .overload) (sought Raising .position) (sought Lowering .position) (handed found service) (handed found ultimate) (v .firstCount) (v .secondCount)
+    parts (v .normal) (v .overload) (sought Raising .position) (sought Lowering .position) (handed found service) (handed found ultimate) (v .firstCount) (v .secondCount) (found .limit-states .ensures .1)
 
 pub account-spec : {M : Type 1} → statement M
 account-spec = tie.close (tie.spec (λ c κs. search needs) values-requires limit-states-requires returns)

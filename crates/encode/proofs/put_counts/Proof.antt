@@ -8,7 +8,7 @@ returns c =
     let p3 = c .before .before in
     let p2 = p3 .before .before .before .before in
     let p1 = p2 .before .before .before .before in
-    and-then (and-then (p1 .put-count .ensures) (p2 .put-count2 .ensures)) (p3 .put-zeros .ensures)
+    and-then (and-then (p1 .put-count .ensures) (p2 .put-count2 .ensures)) (p3 .put-count3 .ensures)
 
 pub put-counts-spec : {M : Type 1} → statement M
 put-counts-spec = tie.close (tie.spec (λ c κs. search needs) (λ c κs. search needs) (λ c κs. search needs) (λ c. search needs) returns)

@@ -17,7 +17,7 @@ put-counts-requires c κs =
     let n = limit-length (a .service) in
     let m = limit-length (a .ultimate) in
     let both = length-append (limitNumbers (a .service)) (limitNumbers (a .ultimate)) in
-    (omega (arith, p4 .put-states .ensures .ends), (s .pre .1 .first, s .pre .1 .second))
+    (omega (arith, p4 .put-states .ensures .ends), (s .pre .1 .first, s .pre .1 .second, s .pre .1 .walked))
 
 returns : tie.Need-returns
 returns c =

@@ -1,5 +1,5 @@
-use mathlib.Core.Path.{_≡_, subst}
-use mathlib.Core.List.{[]}
+use mathlib.Core.Path.{_≡_, ap, subst}
+use mathlib.Core.List.{List, []}
 use Prim.Native.Nat.{ℕ, _-_, _*_, _≤_}
 use native.Mathlib.Nat.{pos-of-ne-zero}
 use native.Mathlib.Omega.{arith}
@@ -8,6 +8,7 @@ use Rattle.exact.specs.declared.Question.{Question}
 use Rattle.exact.specs.declared.Question.the-variants.{Greatest, Least}
 use Rattle.exact.proofs.Extremes.{by-question}
 use Rattle.model.specs.Chains.{recordFactor}
+use Rattle.model.specs.Job.{Term}
 use Rattle.model.specs.Decode.{effectAt, termsFrom}
 use Rattle.omissions.specs.ChainTables.{NamesTo, RecordInTables}
 use Rattle.omissions.specs.Chained.{termOf, termAt, ShareRight, chainFor, ChainRight}
@@ -20,13 +21,13 @@ use Rattle.omissions.proofs.best.Statement.{statement}
 use Rattle.omissions.proofs.best.Tie as tie
 
 abbrev Inv-loop : tie.InvT-loop
-Inv-loop effects edition records first count greatest₀ least₀ c₀ counter₀ greatest least c counter =
-    Sofar Greatest (effectAt (effectUnit edition) effects) (termsFrom records count first) (termsFrom records (count - counter) c) counter greatest
-    × Sofar Least (effectAt (effectUnit edition) effects) (termsFrom records count first) (termsFrom records (count - counter) c) counter least
-    × (counter ≤ count) × (bytes Records * c ≤ length records)
+Inv-loop effects edition records first count greatest₀ least₀ c₀ i₀ greatest least c i =
+    Sofar Greatest (effectAt (effectUnit edition) effects) (termsFrom records count first) (termsFrom records (count - i) c) i greatest
+    × Sofar Least (effectAt (effectUnit edition) effects) (termsFrom records count first) (termsFrom records (count - i) c) i least
+    × (i ≤ count) × (bytes Records * c ≤ length records)
 
 abbrev μ-loop : tie.MeasureT-loop
-μ-loop effects edition records first count greatest₀ least₀ c₀ counter₀ greatest least c counter = count - counter
+μ-loop effects edition records first count greatest₀ least₀ c₀ i₀ greatest least c i = count - i
 
 loop-holds : tie.Need-loop-holds Inv-loop μ-loop
 loop-holds c =
@@ -39,16 +40,23 @@ module _ (c : tie.At-loop Inv-loop μ-loop) where
   abbrev s : tie.Start Inv-loop μ-loop
   s = c .before .before .before
 
-  named : NamesTo 16 (termsFrom (s .args .records .now) (s .args .count) (s .args .first))
-  named = terms-named (effectUnit (s .args .edition)) (s .args .effects .now) (s .args .records .now) (s .pre .1) (s .args .count) (s .args .first) (s .pre .2)
+  -- the chain's terms
+  abbrev whole : List Term
+  whole = termsFrom (s .args .records .now) (s .args .count) (s .args .first)
+
+  named : NamesTo 16 whole
+  named = terms-named 16 (s .args .records .now) (λ r h k. let f = s .pre .1 r h k in (f .effect, f .most, f .next)) (s .args .count) (s .args .first) (s .pre .2)
 
   -- nothing is left
-  ended : termsFrom (s .args .records .now) (s .args .count - c .loop .counter) (c .loop .c) ≡ [] → (q : Question) →
-      ChainRight q (effectAt (effectUnit (s .args .edition)) (s .args .effects .now)) (termsFrom (s .args .records .now) (s .args .count) (s .args .first)) (chainFor q (record { greatest = c .loop .greatest; least = c .loop .least }))
-  ended none = by-question _ (sofar-all Greatest (effectAt (effectUnit (s .args .edition)) (s .args .effects .now)) (c .loop .inv .0) (s .pre .3) named none) (sofar-all Least (effectAt (effectUnit (s .args .edition)) (s .args .effects .now)) (c .loop .inv .1) (s .pre .3) named none)
+  ended : termsFrom (s .args .records .now) (s .args .count - c .loop .i) (c .loop .c) ≡ [] →
+      ((q : Question) → ChainRight q (effectAt (effectUnit (s .args .edition)) (s .args .effects .now)) whole (chainFor q (record { greatest = c .loop .greatest; least = c .loop .least }))) × (c .loop .i ≡ length whole)
+  ended none = (
+    by-question _ (sofar-all Greatest (effectAt (effectUnit (s .args .edition)) (s .args .effects .now)) (c .loop .inv .0) (s .pre .3) named none) (sofar-all Least (effectAt (effectUnit (s .args .edition)) (s .args .effects .now)) (c .loop .inv .1) (s .pre .3) named none),
+    omega (arith, c .loop .inv .0 .walked, ap length none),
+  )
 
 returns : tie.Need-returns Inv-loop μ-loop
-returns c = let l = c .before .before in ended l (terms-none (s l .args .records .now) (s l .args .count - l .loop .counter) (l .loop .c) (c .if1 .taken))
+returns c = let l = c .before .before in ended l (terms-none (s l .args .records .now) (s l .args .count - l .loop .i) (l .loop .c) (c .if1 .taken))
 
 -- where a record's effect has been read
 module _ (c : tie.After-effect Inv-loop μ-loop) where
@@ -102,14 +110,17 @@ loop-again c =
     let a = s (at e) .args in
     let here = else e .if1 .left in
     let n = c .next .ensures .0 in (
-      rw (c .before .before .extended .ensures) (sofar-next Greatest (effectAt (effectUnit (a .edition)) (a .effects .now)) (a .records .now) _ (a .count) (l .counter) (l .c) (c .next .result) _ (l .greatest) here (omega arith) n (own shared) (l .inv .0)),
-      rw (c .before .extended2 .ensures) (sofar-next Least (effectAt (effectUnit (a .edition)) (a .effects .now)) (a .records .now) _ (a .count) (l .counter) (l .c) (c .next .result) _ (l .least) here (omega arith) n (own shared) (l .inv .1)),
+      rw (c .before .before .extended .ensures) (sofar-next Greatest (effectAt (effectUnit (a .edition)) (a .effects .now)) (a .records .now) _ (a .count) (l .i) (l .c) (c .next .result) _ (l .greatest) here (omega arith) n (own shared) (l .inv .0)),
+      rw (c .before .extended2 .ensures) (sofar-next Least (effectAt (effectUnit (a .edition)) (a .effects .now)) (a .records .now) _ (a .count) (l .i) (l .c) (c .next .result) _ (l .least) here (omega arith) n (own shared) (l .inv .1)),
       omega arith,
       rw n (fits e .next),
     )
 
 returns-2 : tie.Need-returns-2 Inv-loop μ-loop
-returns-2 c = let l = c .before in ended l (terms-spent (s l .args .records .now) (s l .args .count - l .loop .counter) (l .loop .c) (omega arith))
+returns-2 c =
+    let l = c .before in
+    let e = ended l (terms-spent (s l .args .records .now) (s l .args .count - l .loop .i) (l .loop .c) (omega arith)) in
+    (e .0, omega (arith, e .1))
 
 pub best-spec : {M : Type 1} → statement M
 best-spec = tie.close (tie.spec Inv-loop μ-loop loop-holds returns (λ c κs. search needs) factor-requires share-of-requires extended-requires extended-requires-2 next-requires (λ c. omega arith) (λ c. omega arith) loop-again returns-2)

@@ -1,4 +1,4 @@
-use mathlib.Core.Path.{_≡_, sym, ap, subst}
+use mathlib.Core.Path.{_≡_, refl, sym, ap, subst}
 use Prim.Native.Nat.{_*_, _≤_}
 use native.Mathlib.Omega.{arith}
 use lib.ListN.{length}
@@ -6,18 +6,21 @@ use Rattle.exact.specs.declared.Question.{Question}
 use Rattle.model.specs.Format.{EffectUnit, profileOf, effectUnit, effectBytes}
 use Rattle.model.specs.Decode.{effectAt, rowCount, rowOf}
 use Rattle.model.specs.Job.{Profile, highway}
+use Rattle.model.specs.RecordsWalked.{chainLength}
 use Rattle.model.specs.declared.Edition.{Edition}
 use Rattle.model.proofs.Editions.{highway-editions}
 use Rattle.omissions.specs.ChainTables.{EffectsInReach}
 use Rattle.rows.specs.Governed.{trafficOf, rowFor, RowRight}
-use Rattle.rows.specs.declared.state.RowBoth.{RowBoth}
+use Rattle.rows.specs.declared.state.RowWalked.{RowWalked}
 use borrow.Author.Needs.{needs}
 use Rattle.rows.proofs.state.row.Statement.{statement}
 use Rattle.rows.proofs.state.row.Tie as tie
 
 -- what is ensured, by the effects' unit and the loads
-abbrev Right : tie.Start → RowBoth → EffectUnit → Profile → Type 0
-Right s x u p = (q : Question) → (rowFor q x .row ≡ s .args .r) × RowRight q (effectAt u (s .args .effects .now)) (rowOf p (s .args .rows .now) (s .args .records .now) (s .args .head .records)) (trafficOf (s .args .live) q) (rowFor q x)
+abbrev Right : tie.Start → RowWalked → EffectUnit → Profile → Type 0
+Right s x u p =
+    let row = rowOf p (s .args .rows .now) (s .args .records .now) (s .args .head .records) in
+    ((q : Question) → (rowFor q (x .best) .row ≡ s .args .r) × RowRight q (effectAt u (s .args .effects .now)) row (trafficOf (s .args .live) q) (rowFor q (x .best))) × (x .records ≡ chainLength p (row (s .args .r)))
 
 -- the loads of the editions that list their rows
 listed-loads : (c : tie.At-match-keys1) → profileOf (c .before .before .before .before .args .head .edition) ≡ highway
@@ -42,7 +45,7 @@ returns : tie.Need-returns
 returns c = let s = c .before .before .before .before .before in subst (Right s (c .listed .result) (effectUnit (s .args .head .edition))) (sym (listed-loads (c .before))) (c .listed .ensures)
 
 returns-2 : tie.Need-returns-2
-returns-2 c = let s = c .before .before .before .before .before .before in subst (λ (e : Edition). Right s (c .built-in .result) (effectUnit e) (profileOf e)) (sym (c .before .enum-told .given .1)) (c .built-in .ensures)
+returns-2 c = let s = c .before .before .before .before .before .before in subst (λ (e : Edition). Right s (record { best = c .built-in .result; records = 0 }) (effectUnit e) (profileOf e)) (sym (c .before .enum-told .given .1)) (c .built-in .ensures, refl)
 
 pub row-spec : {M : Type 1} → statement M
 row-spec = tie.close (tie.spec listed-requires (λ c. search needs) built-in-requires returns returns-2)

@@ -13,12 +13,12 @@ module _ (c : tie.After-governing) where
   s = c .before .before .before .before
 
   right : (limit : Limit) → StateFound (effectAt (effectUnit (s .args .head .edition)) (s .args .effects .now)) (rowOf (profileOf (s .args .head .edition)) (s .args .rows .now) (s .args .records .now) (s .args .head .records)) (trafficOf (s .args .live)) limit (rowCount (profileOf (s .args .head .edition)) (s .args .head .rows)) (stateBy (foundFor limit (c .governing .result)))
-  right limit = state-found _ _ (trafficOf (s .args .live)) limit (rowCount (profileOf (s .args .head .edition)) (s .args .head .rows)) (foundFor limit (c .governing .result)) (c .governing .ensures limit)
+  right limit = state-found _ _ (trafficOf (s .args .live)) limit (rowCount (profileOf (s .args .head .edition)) (s .args .head .rows)) (foundFor limit (c .governing .result)) (c .governing .ensures .0 limit)
 
 returns : tie.Need-returns
 returns c =
     let d = c .before .before .before .before in
-    by-limit _ (rw (c .before .state .ensures) (right d service)) (rw (c .state2 .ensures) (right d ultimate))
+    (by-limit _ (rw (c .before .state .ensures) (right d service)) (rw (c .state2 .ensures) (right d ultimate)), d .governing .ensures .1)
 
 pub states-spec : {M : Type 1} → statement M
 states-spec = tie.close (tie.spec (λ c κs. search needs) (λ c κs. search needs) (λ c κs. search needs) returns)
