@@ -32,13 +32,16 @@ fn weighted_sum(bytes: &[u8]) -> usize
     sum
 }
 
-// Prints an answer and its patch buffer's sum, and answers whether all was written.
+// Prints an answer, its patch buffer's sum and the records walked, and answers whether all was written.
 fn show(a: Answer, sum: usize) -> bool {
+    let account = a.account;
     let mut text = [0u8; print::SIZE];
     let end = print::text(a, &mut text);
     io::write_all(1, &text[..end])
         && io::write_all(1, b"patch ")
         && io::print_decimal(1, sum as u64)
+        && io::write_all(1, b" records ")
+        && io::print_decimal(1, account.walked as u64)
         && io::write_all(1, b"\n")
 }
 

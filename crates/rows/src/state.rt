@@ -249,27 +249,25 @@ pub struct Found {
 }
 
 // What is found with one row more, which is of the service state or of the ultimate.
-fn with_row(served: bool, sofar: Found, next: RowWalked) -> Found
+fn with_row(service: bool, sofar: Found, next: RowWalked) -> Found
     requires { ⌜ sofar .walked + next .records ≤ 512 ⌝ }
-    ensures { λ x. ⌜ x ≡ withRow served sofar next ⌝ }
+    ensures { λ x. ⌜ x ≡ withRow service sofar next ⌝ }
 {
-    let service = sofar.service;
+    let served = sofar.service;
     let ultimate = sofar.ultimate;
     let before = sofar.walked;
     let row = next.best;
     let walked = before + next.records;
-    if served {
-        let service = later_both(service, row);
+    if service {
         return Found {
-            service,
+            service: later_both(served, row),
             ultimate,
             walked,
         };
     }
-    let ultimate = later_both(ultimate, row);
     Found {
-        service,
-        ultimate,
+        service: served,
+        ultimate: later_both(ultimate, row),
         walked,
     }
 }

@@ -1,5 +1,5 @@
 use mathlib.Core.Path.{_≡_, refl, sym, ap, subst}
-use Prim.Native.Nat.{_*_, _≤_}
+use Prim.Native.Nat.{ℕ, _*_, _≤_}
 use native.Mathlib.Omega.{arith}
 use lib.ListN.{length}
 use Rattle.exact.specs.declared.Question.{Question}
@@ -11,16 +11,19 @@ use Rattle.model.specs.declared.Edition.{Edition}
 use Rattle.model.proofs.Editions.{highway-editions}
 use Rattle.omissions.specs.ChainTables.{EffectsInReach}
 use Rattle.rows.specs.Governed.{trafficOf, rowFor, RowRight}
+use Rattle.rows.specs.declared.state.RowBoth.{RowBoth}
 use Rattle.rows.specs.declared.state.RowWalked.{RowWalked}
 use borrow.Author.Needs.{needs}
 use Rattle.rows.proofs.state.row.Statement.{statement}
 use Rattle.rows.proofs.state.row.Tie as tie
 
--- what is ensured, by the effects' unit and the loads
-abbrev Right : tie.Start → RowWalked → EffectUnit → Profile → Type 0
-Right s x u p =
-    let row = rowOf p (s .args .rows .now) (s .args .records .now) (s .args .head .records) in
-    ((q : Question) → (rowFor q (x .best) .row ≡ s .args .r) × RowRight q (effectAt u (s .args .effects .now)) row (trafficOf (s .args .live) q) (rowFor q (x .best))) × (x .records ≡ chainLength p (row (s .args .r)))
+-- what is ensured of its best, by the effects' unit and the loads
+abbrev Right : tie.Start → RowBoth → EffectUnit → Profile → Type 0
+Right s x u p = (q : Question) → (rowFor q x .row ≡ s .args .r) × RowRight q (effectAt u (s .args .effects .now)) (rowOf p (s .args .rows .now) (s .args .records .now) (s .args .head .records)) (trafficOf (s .args .live) q) (rowFor q x)
+
+-- and of its records
+abbrev Counted : tie.Start → ℕ → Profile → Type 0
+Counted s n p = n ≡ chainLength p (rowOf p (s .args .rows .now) (s .args .records .now) (s .args .head .records) (s .args .r))
 
 -- the loads of the editions that list their rows
 listed-loads : (c : tie.At-match-keys1) → profileOf (c .before .before .before .before .args .head .edition) ≡ highway
@@ -42,10 +45,16 @@ built-in-requires c κs =
     (fits .0, fits .1, s .pre .1, fits .2, s .pre .3)
 
 returns : tie.Need-returns
-returns c = let s = c .before .before .before .before .before in subst (Right s (c .listed .result) (effectUnit (s .args .head .edition))) (sym (listed-loads (c .before))) (c .listed .ensures)
+returns c =
+    let s = c .before .before .before .before .before in
+    let loads = sym (listed-loads (c .before)) in
+    (subst (Right s (c .listed .result .best) (effectUnit (s .args .head .edition))) loads (c .listed .ensures .0), subst (Counted s (c .listed .result .records)) loads (c .listed .ensures .1))
 
 returns-2 : tie.Need-returns-2
-returns-2 c = let s = c .before .before .before .before .before .before in subst (λ (e : Edition). Right s (record { best = c .built-in .result; records = 0 }) (effectUnit e) (profileOf e)) (sym (c .before .enum-told .given .1)) (c .built-in .ensures, refl)
+returns-2 c =
+    let s = c .before .before .before .before .before .before in
+    let fourth = sym (c .before .enum-told .given .1) in
+    (subst (λ (e : Edition). Right s (c .built-in .result) (effectUnit e) (profileOf e)) fourth (c .built-in .ensures), subst (λ (e : Edition). Counted s 0 (profileOf e)) fourth refl)
 
 pub row-spec : {M : Type 1} → statement M
 row-spec = tie.close (tie.spec listed-requires (λ c. search needs) built-in-requires returns returns-2)
