@@ -96,6 +96,7 @@ service greatest 46150547000 row 3, left out 8, traffic not left out
 service least 15350000000 row 6, left out 48, traffic not left out
 ultimate greatest 69708554839 row 11, left out 8, traffic not left out
 ultimate least 11587500000 row 16, left out 48, traffic not left out, k 800
+records walked 0
 ";
 
 /// The figures are worked out in farm_hand_worked.rs. Left out are SG (8) from
