@@ -353,10 +353,11 @@ fn store_writes_cases_and_what_is_due_for_each() {
         jobs = rest;
 
         let mut patch = case.patch.clone();
-        due += &second::report::report(&second::solve(job, &mut patch));
+        let answer = second::solve(job, &mut patch);
+        due += &second::report::report(&answer);
         let numbered = patch.iter().enumerate();
         let sum: usize = numbered.map(|(i, &byte)| (i + 1) * usize::from(byte)).sum();
-        due += &format!("patch {sum}\n");
+        due += &format!("patch {sum} records {}\n", answer.account.records_walked);
     }
     assert!(jobs.is_empty());
     assert_eq!(fs::read_to_string(directory.join("expected")).unwrap(), due);
