@@ -242,6 +242,7 @@ ultimate greatest 0 row 1 least 0 row 1
 fn account_prints_the_page_of_the_account() {
     let account = second::solve(&job_a(), &mut [0; 20]).account;
     let page = second::report::page(&account);
+    assert!(page.ends_with("\nrecords walked 2\n"), "{page}");
     prints(&command_on(&["account"], "account", &job_a()), &page);
     prints(&second(&["account"], Stdio::null()), "refused 1 at 0\n");
 }

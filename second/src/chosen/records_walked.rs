@@ -9,7 +9,9 @@ use super::{chains_of, most_rows, of_job, places, row_of_its_own};
 use crate::edition::Edition;
 use crate::farm;
 use crate::generator::Case;
-use crate::job::{Effect, Job, Record, Row, ALWAYS_PRESENT, MAY_BE_LEFT_OUT, SERVICE, ULTIMATE};
+use crate::job::{
+    Effect, Job, Record, Row, ALWAYS_PRESENT, LIVE_NONE, MAY_BE_LEFT_OUT, SERVICE, ULTIMATE,
+};
 
 /// A job's effects, rows and records.
 #[derive(Debug, Clone)]
@@ -19,7 +21,7 @@ pub struct Table {
     pub records: Vec<Record>,
 }
 
-pub const TABLES: [fn() -> Table; 27] = [
+const TABLES: [fn() -> Table; 28] = [
     own_records,
     one_chain_of_all,
     tail_of_every_length,
@@ -36,6 +38,7 @@ pub const TABLES: [fn() -> Table; 27] = [
     ultimate_alone,
     longer_in_service,
     longer_in_ultimate,
+    one_row_without_traffic,
     falling_next,
     jumping_next,
     far_apart,
@@ -242,6 +245,13 @@ pub fn longer_in_service() -> Table {
 /// One record in service, the last of seven in ultimate.
 pub fn longer_in_ultimate() -> Table {
     table(7, &[7, 1], chain(7))
+}
+
+/// Chains of four records, of two and of one, the first without traffic.
+pub fn one_row_without_traffic() -> Table {
+    let mut table = table(4, &[1, 3, 4], chain(4));
+    (table.rows[0].live_kind, table.rows[0].live_factor) = (LIVE_NONE, 0);
+    table
 }
 
 /// Each record leads to the one before it.
