@@ -1,6 +1,6 @@
-//! 01 "Dynamic factor, rounding, rows", 02 "Farm bridges", "Additional overload lanes"
-//! and "Two carriageways": the account, as plain numbers, so that an account of any
-//! origin can be held beside it.
+//! 01 "Dynamic factor, rounding, rows", 02 "Farm bridges", "Additional overload lanes",
+//! "Two carriageways" and "Records walked": the account, as plain numbers, so that an
+//! account of any origin can be held beside it.
 
 use crate::lanes::MOST_LANES;
 use crate::loads::{Direction, Element, Live, Question, Side};
@@ -28,6 +28,8 @@ pub struct Account {
     /// Lanes of the first carriageway and of the second, 0 where there is none.
     pub first_lanes: u32,
     pub second_lanes: u32,
+    /// The sum over rows of their chains' lengths; at most R times E.
+    pub records_walked: i64,
 }
 
 /// A traffic value in N·U and the placement that gives it.

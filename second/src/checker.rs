@@ -1,6 +1,6 @@
-//! Judges an answer of any origin: every refusal, value, governing row, lane count and
-//! patch byte by equality with the definitions; every placement and omission
-//! by the rules it must keep and the value it must give, since 01 leaves
+//! Judges an answer of any origin: every refusal, value, governing row, lane count, patch
+//! byte and the records walked by equality with the definitions; every placement and
+//! omission by the rules it must keep and the value it must give, since 01 leaves
 //! equally good ones free. So is the k that 02 "Farm bridges" has shown.
 
 use crate::account::{side_of, Account, Answer, Governing, State};
@@ -53,7 +53,8 @@ pub fn check(
     }
     check_state(&job, &answer.account, &expected.account, SERVICE)?;
     check_state(&job, &answer.account, &expected.account, ULTIMATE)?;
-    check_lane_counts(&answer.account, &expected.account)
+    check_lane_counts(&answer.account, &expected.account)?;
+    check_records_walked(&job, &answer.account)
 }
 
 pub(crate) fn same<T: PartialEq + std::fmt::Display>(
@@ -151,6 +152,25 @@ fn check_lane_counts(account: &Account, expected: &Account) -> Result<(), String
         account.second_lanes,
         expected.second_lanes,
     )
+}
+
+/// Each row's chain counts, from the row's first record on.
+fn check_records_walked(job: &Job, account: &Account) -> Result<(), String> {
+    let lengths = job.rows.iter().map(|row| chain_length(job, row.first));
+    same(
+        "the number of records walked",
+        account.records_walked,
+        lengths.sum(),
+    )
+}
+
+/// The length of the chain from this record, which has no return: the record and the
+/// chain from its next; 0 has none.
+fn chain_length(job: &Job, first: usize) -> i64 {
+    match first {
+        0 => 0,
+        record => 1 + chain_length(job, job.records[record - 1].next),
+    }
 }
 
 /// A state is none where it has no rows and only there; otherwise its values

@@ -4,14 +4,16 @@
 //! Those of edition 4 are in chosen/farm.rs, those of edition 2 in
 //! chosen/edition_2.rs, those with spans by sign in chosen/spans.rs, those of edition 3
 //! in chosen/edition_3.rs. Those of additional overload lanes, in
-//! chosen/overload_lanes.rs, go with no one stream. Those of chosen/places.rs, refused at
-//! places where no other is, end each edition's.
+//! chosen/overload_lanes.rs, and those of the records walked, in chosen/records_walked.rs,
+//! go with no one stream. Those of chosen/places.rs, refused at places where no other is,
+//! end each edition's.
 
 mod edition_2;
 pub mod edition_3;
 mod farm;
 pub mod overload_lanes;
 pub mod places;
+pub mod records_walked;
 mod spans;
 
 use crate::edition::Edition;
@@ -115,10 +117,14 @@ pub fn all() -> impl Iterator<Item = Case> {
 }
 
 /// The chosen cases that are stored after a stream's generated ones: those that go with
-/// it, and after the last of edition 2 those of additional overload lanes.
+/// it, after the last of edition 2 those of additional overload lanes and after all the
+/// others those of the records walked.
 pub fn stored_after(stream: Stream) -> impl Iterator<Item = Case> {
     let of_lanes = (stream == Stream::Spans).then(overload_lanes::cases);
-    cases(stream).chain(of_lanes.into_iter().flatten())
+    let of_records = (stream == Stream::Three).then(records_walked::cases);
+    cases(stream)
+        .chain(of_lanes.into_iter().flatten())
+        .chain(of_records.into_iter().flatten())
 }
 
 /// The chosen cases that go with a stream, in the order in which they are stored.
@@ -330,11 +336,14 @@ fn most_across(step: i64) -> Vec<i64> {
 
 /// All 32 rows, of both states with either traffic, each with a chain of sixteen records.
 fn most_rows() -> Vec<Row> {
-    let row = |at: usize| {
-        let (state, live_kind) = (1 + at as i64 % 2, 1 + at as i64 / 2 % 2);
-        Row::new(state, live_kind, 1500 - at as i64, 16 * at + 1)
-    };
-    (0..32).map(row).collect()
+    (0..32).map(|at| row_of_its_own(at, 16 * at + 1)).collect()
+}
+
+/// Rows, from 0 on, that differ in their live factors, the state changing with each and
+/// the traffic with every other.
+fn row_of_its_own(at: usize, first: usize) -> Row {
+    let (state, live_kind) = (1 + at as i64 % 2, 1 + at as i64 / 2 % 2);
+    Row::new(state, live_kind, 1500 - at as i64, first)
 }
 
 /// All 512 records, in chains of this length that name the sixteen effects in

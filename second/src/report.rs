@@ -1,5 +1,5 @@
-//! 01 "The host and the program" and 02 "Two carriageways": what the program prints, and
-//! a page with the whole account.
+//! 01 "The host and the program", 02 "Two carriageways" and "Records walked": what the
+//! program prints, and a page with the whole account.
 
 use crate::account::{Account, Answer, Governing, Lane, Stand, State, Traffic, UNLOADED};
 
@@ -53,6 +53,7 @@ pub fn page(account: &Account) -> String {
         pair_line("lowering", &account.lowering),
         governing_lines("service", &account.service),
         governing_lines("ultimate", &account.ultimate),
+        format!("records walked {}\n", account.records_walked),
     ]
     .concat()
 }

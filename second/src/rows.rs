@@ -1,5 +1,6 @@
-//! 01 "Dynamic factor, rounding, rows", 02 "Farm bridges" and "Effects past a
-//! word": the value of each row and the two limit states, in thousandths of N·U.
+//! 01 "Dynamic factor, rounding, rows", 02 "Farm bridges", "Effects past a word" and
+//! "Records walked": the value of each row and the two limit states, in thousandths of
+//! N·U, and the length of the rows' chains.
 //! A row is at most 16 times 3000 times 10^14 and its traffic, less than 4.81e18 in all,
 //! so it fits 64 bits; rows are compared, never subtracted.
 
@@ -81,4 +82,12 @@ pub fn limit_state(job: &Job, state: i64, traffic: impl Fn(Live, Question) -> i6
         },
         _ => State::default(),
     }
+}
+
+/// The records walked: the sum over rows, of both states, of their chains' lengths. A
+/// record on several chains counts for each, whatever its factor; one on no chain does
+/// not count. A built-in row has no records.
+pub fn records_walked(job: &Job) -> i64 {
+    let lengths = job.rows.iter().map(|row| job.chain(row).len() as i64);
+    lengths.sum()
 }

@@ -6,7 +6,7 @@ use crate::lanes::lane_counts;
 use crate::line;
 use crate::loads::{Direction, Live, Question};
 use crate::refusals;
-use crate::rows::limit_state;
+use crate::rows::{limit_state, records_walked};
 use crate::traffic::{traffic_value, LongitudinalEffects};
 use crate::words;
 
@@ -45,6 +45,7 @@ pub fn account_of(job: &Job) -> Account {
         lowering: stand(job, Direction::Lowering),
         first_lanes,
         second_lanes,
+        records_walked: records_walked(job),
         ..Account::default()
     };
     let value = |live, question| account.traffic(live, question).value;

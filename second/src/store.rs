@@ -78,11 +78,17 @@ pub fn case_bytes(case: &Case) -> Vec<u8> {
     .concat()
 }
 
-/// The job's four lines or its refusal, then the patch buffer after the call.
+/// The job's four lines or its refusal, then the patch buffer after the call and the
+/// records walked, 0 where the job is refused.
 pub fn case_lines(case: &Case) -> String {
     let mut patch = case.patch.clone();
     let answer = solve(&case.job, &mut patch);
-    format!("{}patch {}\n", report(&answer), weighted_sum(&patch))
+    format!(
+        "{}patch {} records {}\n",
+        report(&answer),
+        weighted_sum(&patch),
+        answer.account.records_walked
+    )
 }
 
 /// The sum of the bytes, each times its number from 1 on.

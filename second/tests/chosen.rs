@@ -137,16 +137,18 @@ fn jobs_of_additional_lanes_are_accepted() {
     }
 }
 
-/// They come after all of editions 1, 2 and 4; then come those of edition 3.
+/// They come after all of editions 1, 2 and 4; then come those of edition 3, and last
+/// those of the records walked.
 #[test]
-fn jobs_of_additional_lanes_are_stored_before_those_of_edition_3() {
-    let of_lanes: Vec<_> = chosen::overload_lanes::cases().collect();
+fn jobs_of_no_one_stream_are_stored_before_and_after_those_of_edition_3() {
     let generated = store::generated_cases(Stream::Three);
-    let of_edition_3: Vec<_> = generated.chain(chosen::cases(Stream::Three)).collect();
+    let last: Vec<_> = chosen::overload_lanes::cases()
+        .chain(generated)
+        .chain(chosen::cases(Stream::Three))
+        .chain(chosen::records_walked::cases())
+        .collect();
     let stored: Vec<_> = store::cases().collect();
-    let last = stored.len() - of_edition_3.len();
-    assert!(stored[last..] == of_edition_3);
-    assert!(stored[last - of_lanes.len()..last] == of_lanes);
+    assert!(stored[stored.len() - last.len()..] == last);
 }
 
 /// A case stored twice tells nothing new.

@@ -78,6 +78,7 @@ service greatest 498811123300 row 1, left out 0, traffic not left out
 service least 129802515300 row 1, left out 2, traffic not left out
 ultimate greatest 757724301000 row 2, left out 0, traffic not left out
 ultimate least 109734018000 row 2, left out 2, traffic not left out
+records walked 4
 ";
     assert_eq!(page(&account_of(&deck_job())), expected);
 }

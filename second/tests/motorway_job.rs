@@ -88,6 +88,7 @@ service greatest 279231531350 row 1, left out 0, traffic not left out
 service least 112240396700 row 1, left out 2, traffic not left out
 ultimate greatest 421516390500 row 2, left out 0, traffic not left out
 ultimate least 121138333500 row 2, left out 2, traffic not left out
+records walked 4
 ";
     assert_eq!(page(&account_of(&motorway_job())), expected);
 }

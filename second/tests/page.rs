@@ -78,6 +78,7 @@ fn every_part_of_an_account_is_told() {
         },
         first_lanes: 5,
         second_lanes: 0,
+        records_walked: 512,
     };
     let expected = "\
 normal greatest 31 N.U
@@ -99,6 +100,7 @@ lowering pair at station -3, side left
 service none
 ultimate greatest 41 row 32, left out 10, traffic not left out, k 1300
 ultimate least -42 row 1, left out 0, traffic left out
+records walked 512
 ";
     assert_eq!(page(&account), expected);
 }
@@ -131,6 +133,7 @@ fn two_carriageways_are_told_apart() {
         overload_greatest: overload,
         first_lanes: 3,
         second_lanes: 2,
+        records_walked: 7,
         ..Account::default()
     };
     let expected = "\
@@ -151,6 +154,7 @@ raising pair at station 0, side left
 lowering pair at station 0, side left
 service none
 ultimate none
+records walked 7
 ";
     assert_eq!(page(&account), expected);
 }
@@ -183,6 +187,7 @@ raising pair at station -1, side right
 lowering pair at station -1, side left
 service none
 ultimate none
+records walked 0
 ";
     assert_eq!(page(&account_of(&job)), expected);
 }
@@ -222,6 +227,7 @@ lowering pair at station -1, side left
 service greatest 0 row 1, left out 0, traffic not left out
 service least 0 row 1, left out 0, traffic not left out
 ultimate none
+records walked 0
 ";
     assert_eq!(page(&account_of(&job)), expected);
 }

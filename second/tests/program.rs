@@ -96,6 +96,7 @@ service greatest 46150547000 row 3, left out 8, traffic not left out
 service least 15350000000 row 6, left out 48, traffic not left out
 ultimate greatest 69708554839 row 11, left out 8, traffic not left out
 ultimate least 11587500000 row 16, left out 48, traffic not left out, k 800
+records walked 0
 ";
 
 /// The figures are worked out in farm_hand_worked.rs. Left out are SG (8) from
@@ -241,6 +242,7 @@ ultimate greatest 0 row 1 least 0 row 1
 fn account_prints_the_page_of_the_account() {
     let account = second::solve(&job_a(), &mut [0; 20]).account;
     let page = second::report::page(&account);
+    assert!(page.ends_with("\nrecords walked 2\n"), "{page}");
     prints(&command_on(&["account"], "account", &job_a()), &page);
     prints(&second(&["account"], Stdio::null()), "refused 1 at 0\n");
 }
@@ -352,10 +354,11 @@ fn store_writes_cases_and_what_is_due_for_each() {
         jobs = rest;
 
         let mut patch = case.patch.clone();
-        due += &second::report::report(&second::solve(job, &mut patch));
+        let answer = second::solve(job, &mut patch);
+        due += &second::report::report(&answer);
         let numbered = patch.iter().enumerate();
         let sum: usize = numbered.map(|(i, &byte)| (i + 1) * usize::from(byte)).sum();
-        due += &format!("patch {sum}\n");
+        due += &format!("patch {sum} records {}\n", answer.account.records_walked);
     }
     assert!(jobs.is_empty());
     assert_eq!(fs::read_to_string(directory.join("expected")).unwrap(), due);

@@ -1,6 +1,6 @@
 //! What 01, 02 "Farm bridges", "Effects past a word", "Span by sign", "Additional
-//! overload lanes" and "Two carriageways" make due for a job, by trying everything that
-//! they name: every station and side, every centre in n-ths of a cm, every lane set,
+//! overload lanes", "Two carriageways" and "Records walked" make due for a job, by trying
+//! everything that they name: every station and side, every centre in n-ths of a cm, every lane set,
 //! every HO lane with every lane's factor, every row with every k and every omission. Of
 //! eight lanes or more the factors are not tried in every order but given to the
 //! furthest lanes first. Of the crate only the shape of an answer is used, so a slip in
@@ -48,6 +48,7 @@ pub fn due(job: &[u8], before: &[u8], given: &Answer) -> (Answer, Vec<u8>) {
     account.second_lanes = counts.get(1).copied().unwrap_or(0);
     put_state(&job, 1, [normal, overload], &mut account.service);
     put_state(&job, 2, [normal, overload], &mut account.ultimate);
+    account.records_walked = records_walked(&job);
 
     let mut after = before.to_vec();
     for (byte, piece) in after.iter_mut().zip(job.line.chunks(2)) {
@@ -114,6 +115,23 @@ impl Parts<'_> {
             number = record[2];
         }
         chain
+    }
+}
+
+/// Each record as often as rows come to it, by their fourth words or by the third of a
+/// record they came to before. A farm job has neither rows nor records.
+fn records_walked(job: &Parts) -> i64 {
+    let mut come_to: Vec<i64> = job.rows.chunks(4).map(|row| row[3]).collect();
+    let mut walked = 0;
+    loop {
+        come_to.retain(|&number| number != 0);
+        if come_to.is_empty() {
+            return walked;
+        }
+        walked += come_to.len() as i64;
+        for number in &mut come_to {
+            *number = job.records[3 * *number as usize - 1];
+        }
     }
 }
 

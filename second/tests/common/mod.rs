@@ -4,6 +4,7 @@
 #![allow(dead_code)] // Each test file uses some of these.
 
 pub mod call;
+pub mod chains;
 pub mod definition;
 pub mod farm_tables;
 pub mod one_best;
