@@ -37,24 +37,27 @@ pub fn check(
     let job = Job::decode(&words::words_of(job));
     check_patch(&job, &patch, patch_after)?;
     let patch = &patch[..job.pieces.len()];
-    check_stand(&job, patch, &answer.account, Direction::Raising)?;
-    check_stand(&job, patch, &answer.account, Direction::Lowering)?;
+    check_account(&job, patch, &answer.account, &expected.account)
+}
+
+/// An accepted job's account, with its pieces' patch bytes.
+fn check_account(
+    job: &Job,
+    patch: &[u8],
+    account: &Account,
+    expected: &Account,
+) -> Result<(), String> {
+    check_stand(job, patch, account, Direction::Raising)?;
+    check_stand(job, patch, account, Direction::Lowering)?;
     for live in Live::BOTH {
         for question in Question::BOTH {
-            check_traffic(
-                &job,
-                patch,
-                &answer.account,
-                &expected.account,
-                live,
-                question,
-            )?;
+            check_traffic(job, patch, account, expected, live, question)?;
         }
     }
-    check_state(&job, &answer.account, &expected.account, SERVICE)?;
-    check_state(&job, &answer.account, &expected.account, ULTIMATE)?;
-    check_lane_counts(&answer.account, &expected.account)?;
-    check_records_walked(&job, &answer.account)
+    check_state(job, account, expected, SERVICE)?;
+    check_state(job, account, expected, ULTIMATE)?;
+    check_lane_counts(account, expected)?;
+    check_records_walked(job, account)
 }
 
 pub(crate) fn same<T: PartialEq + std::fmt::Display>(

@@ -74,42 +74,43 @@ fn a_row_more() {
 /// A change of a job that leaves its chains alone.
 type Change = fn(&mut Job);
 
+const CHANGES: [(&str, Change); 8] = [
+    ("factors of 0", |job| {
+        job.records.iter_mut().for_each(|record| record.factor = 0)
+    }),
+    ("effects of 0", |job| {
+        job.effects.iter_mut().for_each(|effect| effect.value = 0)
+    }),
+    ("effects that may be left out", |job| {
+        let effects = job.effects.iter_mut();
+        effects.for_each(|effect| effect.mark = MAY_BE_LEFT_OUT)
+    }),
+    ("effects below 0 that may be", |job| {
+        for effect in &mut job.effects {
+            (effect.value, effect.mark) = (-1_000_000_000, MAY_BE_LEFT_OUT);
+        }
+    }),
+    ("no traffic", |job| {
+        for row in &mut job.rows {
+            (row.live_kind, row.live_factor) = (LIVE_NONE, 0);
+        }
+    }),
+    ("traffic of factor 0", |job| {
+        for row in &mut job.rows {
+            (row.live_kind, row.live_factor) = (LIVE_OVERLOAD, 0);
+        }
+    }),
+    ("service alone", |job| {
+        job.rows.iter_mut().for_each(|row| row.state = SERVICE)
+    }),
+    ("ultimate alone", |job| {
+        job.rows.iter_mut().for_each(|row| row.state = ULTIMATE)
+    }),
+];
+
 #[test]
 fn nothing_but_the_chains_matters() {
-    let changes: [(&str, Change); 8] = [
-        ("factors of 0", |job| {
-            job.records.iter_mut().for_each(|record| record.factor = 0)
-        }),
-        ("effects of 0", |job| {
-            job.effects.iter_mut().for_each(|effect| effect.value = 0)
-        }),
-        ("effects that may be left out", |job| {
-            let effects = job.effects.iter_mut();
-            effects.for_each(|effect| effect.mark = MAY_BE_LEFT_OUT)
-        }),
-        ("effects below 0 that may be", |job| {
-            for effect in &mut job.effects {
-                (effect.value, effect.mark) = (-1_000_000_000, MAY_BE_LEFT_OUT);
-            }
-        }),
-        ("no traffic", |job| {
-            for row in &mut job.rows {
-                (row.live_kind, row.live_factor) = (LIVE_NONE, 0);
-            }
-        }),
-        ("traffic of factor 0", |job| {
-            for row in &mut job.rows {
-                (row.live_kind, row.live_factor) = (LIVE_OVERLOAD, 0);
-            }
-        }),
-        ("service alone", |job| {
-            job.rows.iter_mut().for_each(|row| row.state = SERVICE)
-        }),
-        ("ultimate alone", |job| {
-            job.rows.iter_mut().for_each(|row| row.state = ULTIMATE)
-        }),
-    ];
-    for (what, change) in changes {
+    for (what, change) in CHANGES {
         let mut job = two_lane_job();
         change(&mut job);
         assert_eq!(account(&job).records_walked, OF_TWO_LANES, "{what}");

@@ -343,7 +343,7 @@ pub fn two_full_rows() -> Table {
 /// with the rest.
 pub fn walk_of(count: usize) -> Table {
     let mut firsts = vec![1; count / 16];
-    if count % 16 != 0 {
+    if !count.is_multiple_of(16) {
         firsts.push(17 - count % 16);
     }
     table(16, &firsts, chain(16))

@@ -49,13 +49,17 @@ pub fn due(job: &[u8], before: &[u8], given: &Answer) -> (Answer, Vec<u8>) {
     put_state(&job, 1, [normal, overload], &mut account.service);
     put_state(&job, 2, [normal, overload], &mut account.ultimate);
     account.records_walked = records_walked(&job);
+    (answer, patch_after(&job, before))
+}
 
+/// The patch buffer of an accepted job after the call.
+fn patch_after(job: &Parts, before: &[u8]) -> Vec<u8> {
     let mut after = before.to_vec();
     for (byte, piece) in after.iter_mut().zip(job.line.chunks(2)) {
         let sum = piece[0] + piece[1];
         *byte = u8::from(sum > 0) + 2 * u8::from(sum < 0);
     }
-    (answer, after)
+    after
 }
 
 /// A job's words, by section.
