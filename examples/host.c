@@ -165,6 +165,7 @@ static void print_account(const struct hnho_account *account) {
   print_position("lowering", &account->lowering);
   print_state("service", &account->service);
   print_state("ultimate", &account->ultimate);
+  printf("records walked %" PRId64 "\n", account->records_walked);
 }
 
 int main(int argc, char **argv) {

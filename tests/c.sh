@@ -169,6 +169,8 @@ step 'compiling tests/host_edges.c' compile tests/host_edges.c target/c/host_edg
 step 'tests/host_edges.c' target/c/host_edges examples/job-a.bin
 step 'compiling tests/lane_edges.c' compile tests/lane_edges.c target/c/lane_edges
 step 'tests/lane_edges.c' target/c/lane_edges
+step 'compiling tests/chain_edges.c' compile tests/chain_edges.c target/c/chain_edges
+step 'tests/chain_edges.c' target/c/chain_edges
 step 'compiling tests/train_edges.c' compile tests/train_edges.c target/c/train_edges
 step 'tests/train_edges.c' target/c/train_edges
 step 'compiling tests/stored_calls.c' compile tests/stored_calls.c target/c/stored_calls
@@ -178,7 +180,7 @@ away=$(mktemp -d) || exit 2
 trap 'rm -rf "$away"' EXIT
 step 'an installation' install_in "$away" first
 step 'moving the installation' mv "$away/first" "$away/moved"
-step 'the release that HOST.md names' env PKG_CONFIG_PATH="$away/moved/lib/pkgconfig" pkg-config --atleast-version=1.5 hnho
+step 'the release that HOST.md names' env PKG_CONFIG_PATH="$away/moved/lib/pkgconfig" pkg-config --atleast-version=1.6 hnho
 step 'a copy of the examples' cp examples/host.c examples/truck.c examples/arch.c examples/motorway.c "$away"
 for compiler in 'gcc -std=c99' 'g++ -x c++ -std=c++98' 'g++ -x c++ -std=c++20'; do
   for example in host truck; do

@@ -130,7 +130,7 @@ static void expect_job_a(struct buffer patch, struct buffer account) {
   expect_state(&a.ultimate, 2, INT64_C(491971875000), INT64_C(96000000000), "ultimate");
   expect(a.first_lanes == 2, "lanes of the carriageway");
   expect(a.second_lanes == 0, "lanes of a second carriageway");
-  expect(a.records_walked == 0, "records walked");
+  expect(a.records_walked == 2, "records walked, one of each row");
 }
 
 /* A governing value of the farm job. None of the effects that its row may leave out is 0, so those left out are known. */
@@ -257,7 +257,8 @@ static void expect_wide_job(struct buffer patch, struct buffer account) {
   expect_wide_governing(a.ultimate.greatest, 1, 2, 3000 * ho * greatest, "ultimate greatest");
   expect_wide_governing(a.ultimate.least, -1, 2, 3000 * ho * least, "ultimate least");
   expect(a.service.greatest.unladen == 0 && (raised ? a.ultimate.greatest : a.ultimate.least).unladen == 0, "the traffic");
-  expect(a.first_lanes == 1 && a.second_lanes == wide_second_lanes && a.records_walked == 0, "lanes and records");
+  expect(a.first_lanes == 1 && a.second_lanes == wide_second_lanes, "lanes");
+  expect(a.records_walked == 2 * wide_effects, "records walked, every effect's of each row");
 }
 
 /* What an accepted job's buffers are held to. */

@@ -36,13 +36,11 @@ static void print_state(const char *name, const struct hnho_state *state) {
     printf("%s none\n", name);
 }
 
-static void print_account(const uint8_t *bytes) {
-  struct hnho_account account;
-  hnho_read_account(bytes, &account);
-  printf("normal greatest %" PRId64 " least %" PRId64 "\n", account.normal_greatest, account.normal_least);
-  printf("overload greatest %" PRId64 " least %" PRId64 "\n", account.overload_greatest, account.overload_least);
-  print_state("service", &account.service);
-  print_state("ultimate", &account.ultimate);
+static void print_account(const struct hnho_account *account) {
+  printf("normal greatest %" PRId64 " least %" PRId64 "\n", account->normal_greatest, account->normal_least);
+  printf("overload greatest %" PRId64 " least %" PRId64 "\n", account->overload_greatest, account->overload_least);
+  print_state("service", &account->service);
+  print_state("ultimate", &account->ultimate);
 }
 
 /* The sum of the bytes, each times its number from 1 on. */
@@ -57,7 +55,8 @@ static uint64_t weighted_sum(const uint8_t *bytes, size_t n) {
 /* Answers the file's next case; 0 at its end. */
 static int answer(FILE *file) {
   uint8_t head[4];
-  uint8_t *patch, *job, *account;
+  uint8_t *patch, *job, *bytes;
+  struct hnho_account account;
   size_t got = fread(head, 1, sizeof head, file), job_bytes, patch_bytes;
   uint64_t result;
   if (got == 0)
@@ -68,20 +67,21 @@ static int answer(FILE *file) {
   patch_bytes = head[2] + 256u * head[3];
   patch = take(file, patch_bytes);
   job = take(file, job_bytes);
-  account = malloc(HNHO_ACCOUNT_BYTES);
-  if (account == NULL)
+  bytes = malloc(HNHO_ACCOUNT_BYTES);
+  if (bytes == NULL)
     fail("no memory");
-  result = hnho_solve(job, job_bytes, patch, patch_bytes, account, HNHO_ACCOUNT_BYTES);
+  result = hnho_solve(job, job_bytes, patch, patch_bytes, bytes, HNHO_ACCOUNT_BYTES);
+  hnho_read_account(bytes, &account);
   if (result == 0 && job_bytes > longest)
     longest = job_bytes;
   if (result == 0)
-    print_account(account);
+    print_account(&account);
   else
     printf("refused %d at %" PRIu64 "\n", hnho_refusal(result), hnho_place(result));
-  printf("patch %" PRIu64 "\n", weighted_sum(patch, patch_bytes));
+  printf("patch %" PRIu64 " records %" PRId64 "\n", weighted_sum(patch, patch_bytes), account.records_walked);
   free(patch);
   free(job);
-  free(account);
+  free(bytes);
   return 1;
 }
 
