@@ -18,7 +18,7 @@ pub record RowInTables (records : List ℕ) (count : ℕ) (s : List ℕ) (r : �
   pub first : bytes Records * firstRecord s r ≤ length records
   pub distinct : Distinct (termsFrom records count (firstRecord s r))
 
--- the three sections together, by the job's header: the rows that it gives, with chains of at most as many records as it gives, and a rural bridge's eleven effects
+-- the three sections together, by the job's header: the rows that it gives, at most 32, with chains of at most as many records as it gives, and a rural bridge's eleven effects
 pub record TablesFit (e w s : List ℕ) (head : Header) : Type 0 where
   pub effects : EffectsInReach (effectUnit (head .edition)) e
   pub records : RecordsInTables (effectUnit (head .edition)) e s
