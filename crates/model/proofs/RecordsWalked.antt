@@ -1,7 +1,7 @@
 -- Records walked: chains worked out, a rural bridge's, and a bound by the longest chain.
 use mathlib.Core.Path.{_≡_, refl}
 use mathlib.Core.List.{List, [], _∷_}
-use Prim.Native.Nat.{ℕ, zero, suc, _+_, _*_, _≤_}
+use Prim.Native.Nat.{ℕ, zero, suc, _*_, _≤_}
 use native.Mathlib.Omega.{arith}
 use Rattle.words.specs.Words.{signed32, wordAt}
 use Rattle.model.specs.Job.{Row, Profile, highway, rural}

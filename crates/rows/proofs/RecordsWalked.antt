@@ -9,13 +9,13 @@ use native.Mathlib.Numerals.{add-one}
 use native.Mathlib.Omega.{arith}
 use lib.ListN.{length}
 use Rattle.model.specs.Job.{Row, Profile, highway, rural}
-use Rattle.model.specs.Format.{profileOf, headerOf, bytes, sectionOf}
+use Rattle.model.specs.Format.{profileOf, headerOf, bytes}
 use Rattle.model.specs.Chains.{recordEffect}
 use Rattle.model.specs.Decode.{firstRecord, termsFrom, rowCount, rowOf, decode}
 use Rattle.model.specs.Refusals.{jobVerdict}
 use Rattle.model.specs.RecordsWalked.{chainLength, walkedTo, recordsWalked}
 use Rattle.model.specs.declared.Header.{Header}
-use Rattle.model.specs.declared.Part.the-variants.{Effects, Rows, Records}
+use Rattle.model.specs.declared.Part.the-variants.{Records}
 use Rattle.model.proofs.Verdict.{clear}
 use Rattle.model.proofs.HeaderLimits.{header-fits}
 use Rattle.model.proofs.RecordsWalked.{rural-none, walked-most}

@@ -15,7 +15,6 @@ use Rattle.model.specs.Job.{Effect, Row, highway}
 use Rattle.model.specs.RecordsWalked.{chainLength}
 use Rattle.rows.specs.Tables.{RowInTables}
 use Rattle.omissions.specs.Chained.{chainFor, ChainRight}
-use Rattle.omissions.specs.declared.Walked.{Walked}
 use Rattle.rows.specs.Governed.{liveValue, trafficOf}
 use Rattle.rows.proofs.Loaded.{laden-is, one-alternative}
 use borrow.Author.Needs.{needs}

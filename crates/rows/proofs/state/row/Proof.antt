@@ -12,7 +12,6 @@ use Rattle.model.proofs.Editions.{highway-editions}
 use Rattle.omissions.specs.ChainTables.{EffectsInReach}
 use Rattle.rows.specs.Governed.{trafficOf, rowFor, RowRight}
 use Rattle.rows.specs.declared.state.RowBoth.{RowBoth}
-use Rattle.rows.specs.declared.state.RowWalked.{RowWalked}
 use borrow.Author.Needs.{needs}
 use Rattle.rows.proofs.state.row.Statement.{statement}
 use Rattle.rows.proofs.state.row.Tie as tie
