@@ -3,7 +3,7 @@ use Prim.Native.Nat.{ℕ, zero, suc, _+_}
 use lib.ListN.{length}
 use Rattle.model.specs.Job.{Row, Profile, highway, rural, Job}
 
--- the length of a row's chain: a row that the job lists has one, a built-in row no records to walk
+-- the length of a row's chain, in records: a row that the job lists has one alternative, the 0th; a built-in row has no records to walk
 abbrev pub chainLength : Profile → Row → ℕ
 chainLength highway row = length (row .chain 0)
 chainLength rural row = 0

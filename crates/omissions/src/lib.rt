@@ -136,17 +136,17 @@ pub struct ChainedBoth {
     pub least: Chained,
 }
 
-// A chain of records: its best for each question, and how many records it has.
+// A chain of records: its best for each question, and its length.
 pub struct Walked {
     pub best: ChainedBoth,
-    pub records: usize,
+    pub length: usize,
 }
 
-// The best of the chain from a first record, of at most so many records, and how many it has.
+// The best of the chain from a first record, of at most so many records, and its length.
 pub fn best(effects: &[u8], edition: Edition, records: &[u8], first: usize, count: usize) -> Walked
     requires { ⌜ EffectsInReach (effectUnit edition) (now effects) × RecordsInTables (effectUnit edition) (now effects) (now records) × (bytes Records * first ≤ length (now records)) × Distinct (termsFrom (now records) count first) ⌝ }
     ensures { λ r. ⌜ ((q : Question) → ChainRight q (effectAt (effectUnit edition) (now (effects .entry))) (termsFrom (now (records .entry)) count first) (chainFor q (r .best))) ⌝ }
-    ensures { λ r. ⌜ r .records ≡ length (termsFrom (now (records .entry)) count first) ⌝ }
+    ensures { λ r. ⌜ r .length ≡ length (termsFrom (now (records .entry)) count first) ⌝ }
 {
     let mut greatest = Chained {
         value: 0,
@@ -161,7 +161,7 @@ pub fn best(effects: &[u8], edition: Edition, records: &[u8], first: usize, coun
         if c == 0 {
             return Walked {
                 best: ChainedBoth { greatest, least },
-                records: i,
+                length: i,
             };
         }
         let e = chains::effect(records, c);
@@ -172,7 +172,7 @@ pub fn best(effects: &[u8], edition: Edition, records: &[u8], first: usize, coun
     }
     Walked {
         best: ChainedBoth { greatest, least },
-        records: count,
+        length: count,
     }
 }
 

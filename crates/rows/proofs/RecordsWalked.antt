@@ -5,7 +5,6 @@ use mathlib.Core.Option.{none}
 use mathlib.Core.List.{List}
 use Prim.Native.Nat.{ℕ, _+_, _*_, _≤_}
 use native.Mathlib.Nat.{le-refl, le-trans, mul-le-mul-right}
-use native.Mathlib.Numerals.{add-one}
 use native.Mathlib.Omega.{arith}
 use lib.ListN.{length}
 use Rattle.model.specs.Job.{Row, Profile, highway, rural}
@@ -27,21 +26,11 @@ use Rattle.rows.specs.declared.state.RowWalked.{RowWalked}
 use Rattle.rows.specs.declared.state.Found.{Found}
 use Rattle.rows.proofs.Sections.{inside, tables-fit}
 
--- ---- row by row, as the code counts
-pub walked-start : (p : Profile) (row : ℕ → Row) → walkedTo p row 0 ≡ 0
-unfolding walkedTo
-walked-start p row = refl
-
-pub walked-next : (p : Profile) (row : ℕ → Row) (n : ℕ) → walkedTo p row (n + 1) ≡ walkedTo p row n + chainLength p (row (n + 1))
-unfolding walkedTo
-walked-next p row n = rw (add-one n) refl
-
--- a row of either state adds its records
-pub with-more : (b : Bool) (x : Found) (next : RowWalked) → withRow b x next .walked ≡ x .walked + next .records
+-- a row of either state adds its chain's
+pub with-more : (b : Bool) (x : Found) (next : RowWalked) → withRow b x next .walked ≡ x .walked + next .length
 with-more true x next = refl
 with-more false x next = refl
 
--- ---- how many they can be
 module _ {e w s : List ℕ} {head : Header} (fits : TablesFit e w s head) where
   -- no chain is longer than the effects that records name: it names each at most once
   module _ (m : ℕ) (named : (c : ℕ) → 1 ≤ c → bytes Records * c ≤ length s → recordEffect s c ≤ m) where
@@ -67,7 +56,7 @@ module _ (b : List ℕ) (accepted : jobVerdict b ≡ none) where
       let p = profileOf (headerOf b .edition) in
       walked-few fits (headerOf b .effects) (λ c h k. inside b accepted _ .0 (fits .records c h k .there)) p (rowCount p (headerOf b .rows)) (le-refl _)
 
-  -- so at most 512
+  -- and at most 512
   pub walked-512 : recordsWalked (decode b) ≤ 512
   unfolding decode
   walked-512 = let p = profileOf (headerOf b .edition) in walked-near (tables-fit b accepted) p (rowCount p (headerOf b .rows)) (le-refl _)

@@ -98,10 +98,10 @@ laterRow q sofar next = if eqb (sofar .row) 0 then next else (if beats q (next .
 abbrev pub laterRows : RowBoth → RowBoth → RowBoth
 laterRows sofar next = record { greatest = laterRow Greatest (sofar .greatest) (next .greatest); least = laterRow Least (sofar .least) (next .least) }
 
--- a row of the service state, or of the ultimate, more, with its records
+-- with one row more, of the service state or of the ultimate
 abbrev pub withRow : Bool → Found → RowWalked → Found
-withRow true x next = record { service = laterRows (x .service) (next .best); ultimate = x .ultimate; walked = x .walked + next .records }
-withRow false x next = record { service = x .service; ultimate = laterRows (x .ultimate) (next .best); walked = x .walked + next .records }
+withRow true x next = record { service = laterRows (x .service) (next .best); ultimate = x .ultimate; walked = x .walked + next .length }
+withRow false x next = record { service = x .service; ultimate = laterRows (x .ultimate) (next .best); walked = x .walked + next .length }
 
 -- a limit state's rows
 abbrev pub foundFor : Limit → Found → RowBoth

@@ -119,10 +119,10 @@ fn first_record(rows: &[u8], r: usize) -> usize
     word(rows, r, 3)
 }
 
-// A row at its best for each question, and how many records its chain has.
+// A row at its best for each question, and the length of its chain in records.
 pub struct RowWalked {
     pub best: RowBoth,
-    pub records: usize,
+    pub length: usize,
 }
 
 // Row r of the row section; it shows no k.
@@ -136,7 +136,7 @@ fn listed(
 ) -> RowWalked
     requires { ⌜ EffectsInReach (effectUnit (head .edition)) (now effects) × RecordsInTables (effectUnit (head .edition)) (now effects) (now records) × (1 ≤ r) × (bytes Rows * r ≤ length (now rows)) × RowInTables (now records) (head .records) (now rows) r × LiveFits live ⌝ }
     ensures { λ x. ⌜ ((q : Question) → (rowFor q (x .best) .row ≡ r) × RowRight q (effectAt (effectUnit (head .edition)) (now (effects .entry))) (rowAt (now (rows .entry)) (now (records .entry)) (head .records)) (trafficOf live q) (rowFor q (x .best))) ⌝ }
-    ensures { λ x. ⌜ x .records ≡ chainLength highway (rowAt (now (rows .entry)) (now (records .entry)) (head .records) r) ⌝ }
+    ensures { λ x. ⌜ x .length ≡ chainLength highway (rowAt (now (rows .entry)) (now (records .entry)) (head .records) r) ⌝ }
 {
     let edition = head.edition;
     let c = omissions::best(
@@ -151,7 +151,7 @@ fn listed(
     let chains = c.best;
     RowWalked {
         best: laden_both(r, 0, chains, most, least),
-        records: c.records,
+        length: c.length,
     }
 }
 
@@ -222,7 +222,7 @@ fn row(
 ) -> RowWalked
     requires { ⌜ TablesFit (now effects) (now rows) (now records) head × (1 ≤ r) × (r ≤ rowCount (profileOf (head .edition)) (head .rows)) × LiveFits live ⌝ }
     ensures { λ x. ⌜ ((q : Question) → (rowFor q (x .best) .row ≡ r) × RowRight q (effectAt (effectUnit (head .edition)) (now (effects .entry))) (rowOf (profileOf (head .edition)) (now (rows .entry)) (now (records .entry)) (head .records)) (trafficOf live q) (rowFor q (x .best))) ⌝ }
-    ensures { λ x. ⌜ x .records ≡ chainLength (profileOf (head .edition)) (rowOf (profileOf (head .edition)) (now (rows .entry)) (now (records .entry)) (head .records) r) ⌝ }
+    ensures { λ x. ⌜ x .length ≡ chainLength (profileOf (head .edition)) (rowOf (profileOf (head .edition)) (now (rows .entry)) (now (records .entry)) (head .records) r) ⌝ }
 {
     let edition = head.edition;
     match edition {
@@ -236,7 +236,7 @@ fn row(
         ),
         Edition::Fourth => RowWalked {
             best: built_in(effects, live, r),
-            records: 0,
+            length: 0,
         },
     }
 }
@@ -250,14 +250,14 @@ pub struct Found {
 
 // What is found with one row more, which is of the service state or of the ultimate.
 fn with_row(service: bool, sofar: Found, next: RowWalked) -> Found
-    requires { ⌜ sofar .walked + next .records ≤ 512 ⌝ }
+    requires { ⌜ sofar .walked + next .length ≤ 512 ⌝ }
     ensures { λ x. ⌜ x ≡ withRow service sofar next ⌝ }
 {
     let served = sofar.service;
     let ultimate = sofar.ultimate;
     let before = sofar.walked;
     let row = next.best;
-    let walked = before + next.records;
+    let walked = before + next.length;
     if service {
         return Found {
             service: later_both(served, row),

@@ -5,9 +5,10 @@ use Rattle.model.specs.Format.{profileOf, effectUnit}
 use Rattle.model.specs.Decode.{effectAt, rowCount, rowOf}
 use Rattle.model.specs.Job.{Row}
 use Rattle.model.specs.RecordsWalked.{walkedTo}
+use Rattle.model.proofs.RecordsWalked.{walked-start, walked-next}
 use Rattle.rows.specs.Governed.{trafficOf, FoundRight}
 use Rattle.rows.proofs.Choosing.{found-none, found-next}
-use Rattle.rows.proofs.RecordsWalked.{walked-start, walked-next, with-more, walked-near}
+use Rattle.rows.proofs.RecordsWalked.{with-more, walked-near}
 use borrow.Author.Needs.{needs}
 use Rattle.rows.proofs.state.governing.Statement.{statement}
 use Rattle.rows.proofs.state.governing.Tie as tie
@@ -48,12 +49,12 @@ row-requires c κs = let s = s (counted c) in (s .pre .0, omega arith, last c, s
 of-service-requires : tie.Need-of-service-requires Inv-loop μ-loop
 of-service-requires c κs = let b = c .before in (omega arith, last b, s (counted b) .pre .0 .long)
 
--- at a row's records
+-- where a row has been read
 module _ (c : tie.After-of-service Inv-loop μ-loop) where
   abbrev at : tie.In-loop Inv-loop μ-loop
   at = c .before .before
 
-  more : at .before .loop .found .walked + c .before .row .result .records ≡ walkedTo (profileOf (s (counted at) .args .head .edition)) (row (counted at)) (i at + 1)
+  more : at .before .loop .found .walked + c .before .row .result .length ≡ walkedTo (profileOf (s (counted at) .args .head .edition)) (row (counted at)) (i at + 1)
   more = ap₂ (λ (m n : ℕ). m + n) (at .before .loop .inv .2) (c .before .row .ensures .1) ∙ sym (walked-next (profileOf (s (counted at) .args .head .edition)) (row (counted at)) (i at))
 
 with-row-requires : tie.Need-with-row-requires Inv-loop μ-loop

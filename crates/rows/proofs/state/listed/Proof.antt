@@ -48,8 +48,8 @@ module _ (c : tie.After-best) where
       subst (λ (k : ℕ). ChainRight q effect (termsFrom (at .args .records .now) (at .args .head .records) k) (chainFor q (c .best .result .best)))
       (c .before .first-record .ensures) (c .best .ensures .0 q)
 
-  -- and so many records were on it
-  walked : c .best .result .records ≡ chainLength highway (row (at .args .r))
+  -- and of its length
+  walked : c .best .result .length ≡ chainLength highway (row (at .args .r))
   walked = c .best .ensures .1 ∙ ap (λ (k : ℕ). length (termsFrom (at .args .records .now) (at .args .head .records) k)) (c .before .first-record .ensures)
 
 loaded-requires : tie.Need-loaded-requires

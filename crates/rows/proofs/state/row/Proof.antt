@@ -20,7 +20,7 @@ use Rattle.rows.proofs.state.row.Tie as tie
 abbrev Right : tie.Start → RowBoth → EffectUnit → Profile → Type 0
 Right s x u p = (q : Question) → (rowFor q x .row ≡ s .args .r) × RowRight q (effectAt u (s .args .effects .now)) (rowOf p (s .args .rows .now) (s .args .records .now) (s .args .head .records)) (trafficOf (s .args .live) q) (rowFor q x)
 
--- and of its records
+-- and of its length
 abbrev Counted : tie.Start → ℕ → Profile → Type 0
 Counted s n p = n ≡ chainLength p (rowOf p (s .args .rows .now) (s .args .records .now) (s .args .head .records) (s .args .r))
 
@@ -47,7 +47,7 @@ returns : tie.Need-returns
 returns c =
     let s = c .before .before .before .before .before in
     let loads = sym (listed-loads (c .before)) in
-    (subst (Right s (c .listed .result .best) (effectUnit (s .args .head .edition))) loads (c .listed .ensures .0), subst (Counted s (c .listed .result .records)) loads (c .listed .ensures .1))
+    (subst (Right s (c .listed .result .best) (effectUnit (s .args .head .edition))) loads (c .listed .ensures .0), subst (Counted s (c .listed .result .length)) loads (c .listed .ensures .1))
 
 returns-2 : tie.Need-returns-2
 returns-2 c =
