@@ -273,8 +273,8 @@ struct hnho_account {
 
   int64_t first_lanes;     /* lanes of the carriageway, in edition 3 of the first */
   int64_t second_lanes;    /* lanes of the second carriageway; 0 where there is one carriageway */
-  int64_t records_walked;  /* the lengths of all rows' chains added up, in records, a tail that rows share for each of them: at most
-                              R times E, so 512; 0 in a farm job, whose rows are built in */
+  int64_t records_walked;  /* records on each row's chain, added up, so that a tail that rows share counts for each of them; at most R
+                              times E, and so at most 512; 0 in a farm job, whose rows are built in */
 };
 
 /* Where a train stands. */

@@ -20,9 +20,9 @@ struct record {
   int32_t effect, factor, next;
 };
 
-/* The table of load factors: effects, all with one mark; each row's limit state and first record; the records. */
+/* The table of load factors: effects, all with one mark; each row's limit state, live kind and first record; the records. */
 static int32_t effects, mark, rows, records;
-static int32_t state[MOST_ROWS], first[MOST_ROWS];
+static int32_t state[MOST_ROWS], live[MOST_ROWS], first[MOST_ROWS];
 static struct record record[MOST_RECORDS];
 
 /* The job's words so far. */
@@ -33,7 +33,7 @@ static void put(int32_t word) {
   hnho_put_word(job, words++, word);
 }
 
-/* So many rows, of either state by turns, with empty chains, and so many records of effect 1 that end a chain. */
+/* So many rows, states and live kinds by turns, with empty chains, and so many records of effect 1 that end a chain. */
 static void table(int32_t e, int32_t r, int32_t c) {
   int32_t i;
   effects = e;
@@ -42,6 +42,7 @@ static void table(int32_t e, int32_t r, int32_t c) {
   records = c;
   for (i = 0; i < r; i++) {
     state[i] = i % 2 == 0 ? HNHO_ROW_SERVICE : HNHO_ROW_ULTIMATE;
+    live[i] = i % 3;
     first[i] = 0;
   }
   for (i = 0; i < c; i++) {
@@ -89,8 +90,8 @@ static void pack(int32_t edition) {
     put_effect(edition);
   for (i = 0; i < rows; i++) {
     put(state[i]);
-    put(HNHO_LIVE_NONE);
-    put(0);
+    put(live[i]);
+    put(live[i] == HNHO_LIVE_NONE ? 0 : 1000);
     put(first[i]);
   }
   for (i = 0; i < records; i++) {
@@ -108,7 +109,6 @@ static int64_t call(size_t patch_bytes, int number, uint64_t place) {
   expect_result(hnho_solve(own.bytes, own.n, patch.bytes, patch.n, account.bytes, account.n), number, place);
   if (number != 0)
     expect(all_are(account.bytes, 0, account.n, 0), "a refusal's account is not zero");
-  expect(hnho_number(account.bytes, 156) == hnho_number(account.bytes, HNHO_RECORDS_WALKED), "the number's place");
   hnho_read_account(account.bytes, &a);
   take_back(own, "a byte beside the job changed");
   take_back(patch, "a byte beside the patch buffer changed");
@@ -120,7 +120,6 @@ static int64_t call(size_t patch_bytes, int number, uint64_t place) {
 static void walks(const char *name, int64_t due) {
   int32_t edition;
   step = name;
-  expect(due <= rows * effects, "more is due than the bound");
   for (edition = HNHO_EDITION_HIGHWAY; edition <= HNHO_EDITION_TWO_CARRIAGEWAYS; edition++) {
     pack(edition);
     expect(call(1, 0, 0) == due, "records walked");
@@ -128,11 +127,14 @@ static void walks(const char *name, int64_t due) {
   }
 }
 
-/* The table of edition 1 is refused at a row. */
-static void refuses(const char *name, int number, int row) {
+/* The table is refused in each edition at the first word of a row: from there on come this row, those after it and the records. */
+static void refuses(const char *name, int number, int32_t row) {
+  int32_t edition;
   step = name;
-  pack(HNHO_EDITION_HIGHWAY);
-  expect(call(1, number, (uint64_t)(HNHO_HEADER_WORDS + 2 + ACROSS + 2 * effects + 4 * (row - 1))) == 0, "records walked of a refusal");
+  for (edition = HNHO_EDITION_HIGHWAY; edition <= HNHO_EDITION_TWO_CARRIAGEWAYS; edition++) {
+    pack(edition);
+    expect(call(1, number, words - (size_t)(4 * (rows - row + 1) + 3 * records)) == 0, "records walked of a refusal");
+  }
 }
 
 static void empty_chains(void) {

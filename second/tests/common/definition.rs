@@ -1,9 +1,9 @@
 //! What 01, 02 "Farm bridges", "Effects past a word", "Span by sign", "Additional
 //! overload lanes", "Two carriageways" and "Records walked" make due for a job, by trying
-//! everything that they name: every station and side, every centre in n-ths of a cm, every lane set,
-//! every HO lane with every lane's factor, every row with every k and every omission. Of
-//! eight lanes or more the factors are not tried in every order but given to the
-//! furthest lanes first. Of the crate only the shape of an answer is used, so a slip in
+//! everything that they name: every station and side, every centre in n-ths of a cm,
+//! every lane set, every HO lane with every lane's factor, every row with every k and every
+//! omission. Of eight lanes or more the factors are not tried in every order but given to
+//! the furthest lanes first. Of the crate only the shape of an answer is used, so a slip in
 //! the solver, or in what the solver and the checker share, shows beside it.
 
 use super::farm_tables::{FIRST_ULTIMATE_ROW, K, LIVE, ROWS, ROW_OF_K};
