@@ -1,4 +1,6 @@
 // The account of an accepted job, part by part.
+#![tactic(auto)]
+
 ghost use Rattle.std.specs.Prelude.{◌≡◌};
 ghost use Rattle.model.specs.Decode.{decode};
 ghost use Rattle.model.specs.Job.{Limit};

@@ -1,4 +1,6 @@
 // A train, lent as a slice of axles, as one value. `axle` and `gather` have such a slice and are proved by hand; code over the value is covered.
+#![tactic(auto)]
+
 ghost use Rattle.std.specs.Prelude.{◌≡◌};
 ghost use Rattle.model.specs.Trains.{axle_at};
 ghost use Rattle.axles.specs.Gathering.{bundle, gathered_of};

@@ -1,4 +1,6 @@
 // Bytes put into a buffer one after the other. Each `put_` function puts its bytes into `out` from `at` on and answers where they end.
+#![tactic(auto)]
+
 ghost use Rattle.std.specs.Prelude.{◌≡◌, ◌+◌, ◌≤◌, length, replicate};
 ghost use Rattle.buffer.specs.Stored.{little_endian, Stored, cleared};
 

@@ -1,4 +1,6 @@
 // What lies across the line: the number of lanes, the limits of each, and its centres with the greatest and the least transverse ordinate.
+#![tactic(auto)]
+
 ghost use Rattle.std.specs.Prelude.{◌≡◌, ℕ, ◌+◌, ◌/◌, ◌≤◌, ◌<◌, ◌^◌, max, eqb, get_or};
 ghost use Rattle.exact.specs.Bounds.{Within};
 ghost use Rattle.exact.specs.Choice.{if◌then◌else◌};

@@ -1,4 +1,6 @@
 // Chains in the record section: a record's words, whether a chain ends, whether it names an effect twice.
+#![tactic(auto)]
+
 ghost use Rattle.std.specs.Prelude.{◌≡◌, ◌+◌, ◌-◌, ◌*◌, ◌≤◌, ◌<◌, length, eqb};
 ghost use Rattle.words.specs.Words.{count_at};
 ghost use Rattle.model.specs.Format.{size, bytes};

@@ -1,4 +1,6 @@
 // Numbers as decimal text; specs/Decimal.antt says what the text is. Each `put_` function puts a text into `out` from `at` on and answers where it ends.
+#![tactic(auto)]
+
 ghost use Rattle.std.specs.Prelude.{◌≡◌, ◌++◌, ◌+◌, ◌≤◌, ◌<◌, nat_abs, length};
 ghost use Rattle.buffer.specs.Stored.{Stored};
 ghost use Rattle.decimal.specs.Decimal.{digit, digits, decimal, signed};

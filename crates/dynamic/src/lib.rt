@@ -1,4 +1,6 @@
 // The dynamic factor, in thousandths.
+#![tactic(auto)]
+
 ghost use Rattle.std.specs.Prelude.{◌≡◌, ◌-◌, ◌*◌, ◌≤◌, max, length};
 ghost use Rattle.model.specs.Decode.{dynamic_value};
 ghost use Rattle.model.specs.Dynamic.{span_factor, dynamic_factor};

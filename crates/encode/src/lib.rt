@@ -1,4 +1,6 @@
 // An account as bytes for a host: numbers of eight bytes each, in two's complement, lowest byte first. specs/Encoding.antt says which stands where. Each `put_` function puts numbers into `out` from `at` on and answers where they end.
+#![tactic(auto)]
+
 ghost use Rattle.std.specs.Prelude.{◌≡◌, [], ◌∷◌, ◌++◌, ◌+◌, ◌^◌, ◌≤◌, ◌<◌, pos, length, drop};
 ghost use Rattle.model.specs.declared.State.TheVariants.{Reported};
 ghost use Rattle.numbers.specs.NumberBytes.{ReadBack, Written};

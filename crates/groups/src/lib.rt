@@ -1,4 +1,6 @@
 // The factors of the built-in load combinations of rural bridges (Appendix D), multiplied out.
+#![tactic(auto)]
+
 ghost use Rattle.std.specs.Prelude.{◌≡◌, ◌<◌};
 ghost use Rattle.exact.specs.Ranges.{list_of};
 ghost use Rattle.groups.specs.FactorLines.{line_factor};

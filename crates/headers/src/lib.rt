@@ -1,4 +1,6 @@
 // The header's field at fault, by the limits of its row of the table.
+#![tactic(auto)]
+
 ghost use Rattle.std.specs.Prelude.{◌≡◌, List, ◌+◌, ◌*◌, ◌≤◌, length};
 ghost use Rattle.exact.specs.Bounds.{Within};
 ghost use Rattle.words.specs.Words.{word_at};

@@ -1,4 +1,6 @@
 // Reads a job from standard input and prints its four lines, or its refusal.
+#![tactic(auto)]
+
 ghost use Rattle.std.specs.Prelude.{◌≡◌, ◌≤◌, length, take};
 ghost use Rattle.hnho.specs.Printed.{Printed};
 

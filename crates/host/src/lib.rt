@@ -1,4 +1,6 @@
 // The entries for hosts written in C; include/hnho.h declares them.
+#![tactic(auto)]
+
 ghost use Rattle.std.specs.Prelude.{◌≡◌};
 ghost use Rattle.encode.specs.Encoding.{layout};
 ghost use Rattle.trains.specs.Rated.{Rated};

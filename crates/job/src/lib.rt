@@ -1,3 +1,5 @@
 // A job's refusals and the verdict.
+#![tactic(auto)]
+
 mod defects;
 pub mod refusals;

@@ -1,4 +1,6 @@
 // From a job's bytes to its account.
+#![tactic(auto)]
+
 ghost use Rattle.std.specs.Prelude.{◌≡◌};
 ghost use Rattle.model.specs.Answered.{refusal_answer, Answered};
 

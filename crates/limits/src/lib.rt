@@ -1,4 +1,6 @@
 // The lowest place at fault in a part after the header, item by item, by the limits of its row of the table. Places count from the part's first word.
+#![tactic(auto)]
+
 ghost use Rattle.std.specs.Prelude.{◌≡◌, ℕ, ◌+◌, ◌*◌, ◌≤◌, ◌<◌, pos, neg_ℤ, ltb, length};
 ghost use Rattle.std.proofs.Math.Option.{some};
 ghost use Rattle.exact.specs.Bounds.{Within};

@@ -244,6 +244,7 @@ whole_spacing h (inr (inr (inl e))) = rw e (omega arith, refl)
 whole_spacing h (inr (inr (inr (inl e)))) = rw e (omega arith, refl)
 whole_spacing h (inr (inr (inr (inr (inl e))))) = rw e (omega arith, refl)
 whole_spacing h (inr (inr (inr (inr (inr (inl e)))))) = rw e (omega arith, refl)
+whole_spacing h (inr (inr (inr (inr (inr (inr x6)))))) = elim x6 [ ]
 
 -- the dynamic factor is from 1000 to 1300 thousandths
 pub dynamic_range : (kind value : ℕ) → DynamicRight kind value → (1000 ≤ dynamic_factor kind value) × (dynamic_factor kind value ≤ 1300)

@@ -8,7 +8,7 @@ use native.Mathlib.Decide.{dec_le}
 use native.Mathlib.Omega.{arith}
 use lib.IntN.{ℤ, pos}
 use lib.Signed.{◌≤ℤ◌, lt_z}
-use borrow.Author.Tests.{not_true}
+use borrow.Author.Tests.{not-true}
 use Rattle.exact.specs.Bounds.{Within}
 use Rattle.exact.proofs.Bounds.{within_le}
 use Rattle.exact.proofs.Order.{lt→le}
@@ -92,7 +92,7 @@ not_crossing x y = go (lt_z (pos 0) x) (lt_z y (pos 0)) (lt_z x (pos 0)) (lt_z (
 
 -- a section without a crossing piece is of a line whose pieces have one sign
 pub section_signed : (s : List ℕ) (h n : ℕ) → misfit (signs n) s ≡ none → OneSigned (influence_line s h n)
-section_signed s h n e i l = not_crossing _ _ (not_true _ (first_fits (signs n) s e i l (omega arith)))
+section_signed s h n e i l = not_crossing _ _ (not-true _ (first_fits (signs n) s e i l (omega arith)))
 
 -- so has a job without fault 5
 pub one_signed : (b : List ℕ) → fault5 b ≡ none → OneSigned (decode b).line

@@ -1,7 +1,7 @@
 -- Demand 3 for the limit states: no row, with any omission and any traffic, beats the state's value; and when a row's omissions attain its best.
 use mathlib.Core.Path.{◌≡◌, refl, sym, ◌∙◌, ap, ap₂, subst}
 use mathlib.Core.Bool.{Bool, true, false, ◌&&◌, false≢true, true≢false}
-use mathlib.Core.Option.{Option, none, some, some_injective, some-ne-none}
+use mathlib.Core.Option.{Option, none, some, some-injective, some-ne-none}
 use mathlib.Core.List.{List, [], ◌∷◌}
 use Prim.Native.Nat.{ℕ, zero, suc, ◌≤◌}
 use native.Mathlib.Decide.{dec_le}
@@ -118,11 +118,11 @@ later_bounds q (some s) g =
 
 -- and is one of them
 later_one : (q : Question) (P : Governs → Type 0) (sofar : Option Governs) (g : Governs) → ((s : Governs) → sofar ≡ some s → P s) → P g → (r : Governs) → later_if_better q sofar g ≡ some r → P r
-later_one q P none g before now r e = subst P (some_injective _ _ e) now
+later_one q P none g before now r e = subst P (some-injective _ _ e) now
 later_one q P (some s) g before now r e =
     by_test (beats q g.value s.value) (λ t. (if t then some g else some s) ≡ some r → P r)
-    (λ _ e. subst P (some_injective _ _ e) now)
-    (λ _ e. subst P (some_injective _ _ e) (before s refl)) e
+    (λ _ e. subst P (some-injective _ _ e) now)
+    (λ _ e. subst P (some-injective _ _ e) (before s refl)) e
 
 -- a row of the state, with its value
 record StateRow (row : ℕ → Row) (value : ℕ → ℤ) (limit : Limit) (n : ℕ) (g : Governs) : Type 0 where

@@ -7,7 +7,7 @@ use Prim.Native.Nat.{ℕ, ◌+◌, ◌*◌, ◌<◌}
 use native.Mathlib.Omega.{arith}
 use lib.IntN.{ℤ, pos}
 use lib.ListN.{length, get_or}
-use borrow.Author.Tests.{not_true}
+use borrow.Author.Tests.{not-true}
 use Rattle.exact.specs.Bounds.{Within}
 use Rattle.exact.specs.Choice.{if◌then◌else◌, between}
 use Rattle.exact.specs.Parts.{up}
@@ -93,8 +93,8 @@ module _ (b : List ℕ) (clear : fault6 b ≡ none) (i : ℕ) where
 module _ (b : List ℕ) (e : fault7 b ≡ none) (i : ℕ) (h : i < (header_of b).rows) where
   pub no_return : chain_returns b (i + 1) ≡ false
   unfolding fault7
-  no_return = not_true _ (first_fits (row_tests (header_of b).rows (λ i. not (chain_returns b (i + 1)))) (section_of b Rows) (moved_none _ _ e) i h (omega arith))
+  no_return = not-true _ (first_fits (row_tests (header_of b).rows (λ i. not (chain_returns b (i + 1)))) (section_of b Rows) (moved_none _ _ e) i h (omega arith))
 
   pub no_repeat : fault8 b ≡ none → chain_names_twice b (i + 1) ≡ false
   unfolding fault8
-  no_repeat f = not_true _ (rw no_return at (first_fits (row_tests (header_of b).rows (λ i. chain_returns b (i + 1) || not (chain_names_twice b (i + 1)))) (section_of b Rows) (moved_none _ _ f) i h (omega arith)))
+  no_repeat f = not-true _ (rw no_return at (first_fits (row_tests (header_of b).rows (λ i. chain_returns b (i + 1) || not (chain_names_twice b (i + 1)))) (section_of b Rows) (moved_none _ _ f) i h (omega arith)))

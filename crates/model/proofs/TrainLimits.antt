@@ -1,7 +1,7 @@
 -- What a call for a train that is not refused gives: its arguments within their limits, a line without a fault, and axles within their limits, none past the last.
 use mathlib.Core.Path.{◌≡◌, refl}
 use mathlib.Core.Bool.{Bool, true, false, ◌&&◌, and-eq-true_iff}
-use mathlib.Core.Option.{Option, none, some, some-ne-none, some_injective, none-ne-some}
+use mathlib.Core.Option.{Option, none, some, some-ne-none, some-injective, none-ne-some}
 use mathlib.Core.List.{List, [], ◌∷◌}
 use Prim.Native.Nat.{ℕ, zero, suc, ◌+◌, ◌-◌, ◌*◌, ◌/◌, ◌%◌, ◌≤◌, ◌<◌}
 use native.Mathlib.Nat.{div-eq_of_lt}
@@ -138,11 +138,11 @@ fault_place h t {p} = by_test (few t) (λ b. (if b then search_axles h t else so
     let a = answer_one 0 (length t) (λ i. unless (axle_fits h t i) (suc i)) p e in
     let q = place (axle_fits h t a.0) a.0 a.2 in
     omega (arith, a.1))
-    (λ _ e. let q = some_injective 0 p e in omega arith)
+    (λ _ e. let q = some-injective 0 p e in omega arith)
   where
     place : (b : Bool) (i : ℕ) → unless b (suc i) ≡ some p → p ≡ suc i
     place true i e = absurd (none-ne-some p e)
-    place false i e = let q = some_injective (suc i) p e in omega arith
+    place false i e = let q = some-injective (suc i) p e in omega arith
 
 -- ---- the verdict
 -- no number finds a fault

@@ -1,4 +1,6 @@
 // Numbers as bytes, eight each, in two's complement, lowest byte first. Each `put_` function puts numbers into `out` from `at` on and answers where they end.
+#![tactic(auto)]
+
 ghost use Rattle.std.specs.Prelude.{◌≡◌, [], ◌∷◌, ◌+◌, ◌*◌, ◌^◌, ◌≤◌, ◌<◌, pos, length, replicate};
 ghost use Rattle.std.specs.Int.{w64};
 ghost use Rattle.std.proofs.Common.{of_z};

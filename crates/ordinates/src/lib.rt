@@ -1,4 +1,6 @@
 // Refusals 4 and 5 on a line's own bytes: passes that only tell whether there is a fault, and the search for the place.
+#![tactic(auto)]
+
 ghost use Rattle.std.specs.Prelude.{◌≡◌, true, false, ◌*◌, ◌≤◌, pos, neg_ℤ, length};
 ghost use Rattle.std.specs.Int.Signed.{lt_z};
 ghost use Rattle.exact.specs.Bounds.{Within};

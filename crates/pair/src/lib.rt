@@ -1,5 +1,7 @@
 // The axle pair: its best position. A station of the pair is its right axle's, in pieces from the line's left end.
 // Its places count stations and sides: place p is station p / 2, from the left where p is even. There an axle counts the line's word p - 1.
+#![tactic(auto)]
+
 ghost use Rattle.std.specs.Prelude.{◌≡◌, ℕ, ◌+◌, ◌-◌, ◌*◌, ◌/◌, ◌≤◌, ◌<◌, ℤ};
 ghost use Rattle.exact.specs.Bounds.{Within};
 ghost use Rattle.exact.specs.Questions.{better};

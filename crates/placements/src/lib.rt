@@ -1,4 +1,6 @@
 // An account's placements as numbers of eight bytes each. Each `put_` function puts numbers into `out` from `at` on and answers where they end.
+#![tactic(auto)]
+
 ghost use Rattle.std.specs.Prelude.{◌≡◌, ◌+◌, ◌≤◌, ◌<◌, length};
 ghost use Rattle.model.specs.Numbers.{side_number, entry_number};
 ghost use Rattle.model.specs.declared.Entry.TheVariants.{Hn, Ho};

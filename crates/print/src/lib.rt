@@ -1,4 +1,6 @@
 // What the programs print of an answer; specs/Text.antt says what the text is. Each `put_` function puts a text into `out` from `at` on and answers where it ends.
+#![tactic(auto)]
+
 ghost use Rattle.std.specs.Prelude.{◌≡◌, ◌++◌, ◌+◌, ◌≤◌, length, take, drop};
 ghost use Rattle.buffer.specs.Stored.{Stored};
 ghost use Rattle.print.specs.Text.{report, traffic_line, governing_text, state_line, account_text, refusal_line, answer_text};

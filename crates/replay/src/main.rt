@@ -1,4 +1,6 @@
 // Answers every case of the file `jobs` and prints what comes of each. A case is the job's length and the patch buffer's, in two bytes each, low byte first, then the patch buffer and the job.
+#![tactic(auto)]
+
 ghost use Rattle.std.specs.Prelude.{◌≤◌, length};
 
 use model::Answer;

@@ -1,4 +1,6 @@
 // A rating as bytes for a host: nine numbers of eight bytes each, in two's complement, lowest byte first, in the order of `reportNumbers`.
+#![tactic(auto)]
+
 ghost use Rattle.std.specs.Prelude.{◌≡◌, ◌++◌, ◌+◌, ◌≤◌, ◌<◌, length, drop};
 ghost use Rattle.model.specs.Numbers.{way_number};
 ghost use Rattle.model.specs.Trains.{report_size};

@@ -1,4 +1,6 @@
 // Each part of a job by the table: the words of its items, their number, its start and its own bytes.
+#![tactic(auto)]
+
 pub mod header;
 
 ghost use Rattle.std.specs.Prelude.{◌≡◌, ◌≤◌, ◌<◌, eqb, length};

@@ -1,4 +1,6 @@
 // Sets of lanes, their r and additional lanes' factors, and the best of them by the lanes' ranks: no set or assignment is searched.
+#![tactic(auto)]
+
 ghost use Rattle.std.specs.Prelude.{◌≡◌, ℕ, ◌+◌, ◌-◌, ◌*◌, ◌≤◌, ◌<◌, ◌^◌, ltb, ℤ, pos, ◌+ℤ◌};
 ghost use Rattle.std.specs.Int.Count.{ones};
 ghost use Rattle.exact.specs.Bounds.{Within};

@@ -1,5 +1,7 @@
 // A train's worst stands on a line. A run has the leftmost axle on one piece: run m on piece m less the train's length in pieces, from the line's left end.
 // Places count stations and sides: place p is station p / 2 less the train's length, from the left where p is even. A run's left end is place 2 m + 1, its right end 2 m + 2.
+#![tactic(auto)]
+
 ghost use Rattle.std.specs.Prelude.{◌≡◌, List, ℕ, ◌+◌, ◌-◌, ◌*◌, ◌/◌, ◌≤◌, ◌<◌, ℤ, pos, ◌+ℤ◌, ◌-ℤ◌, ◌*ℤ◌, length, take};
 ghost use Rattle.exact.specs.Bounds.{Within};
 ghost use Rattle.exact.specs.Choice.{if◌then◌else◌};

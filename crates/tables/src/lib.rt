@@ -1,4 +1,6 @@
 // The rows and records of a job's standard form. `n` is E of the job, `left` its C; factors are in thousandths, effect 1's first. Each `put_` function puts its bytes into `out` from `at` on and answers where they end.
+#![tactic(auto)]
+
 ghost use Rattle.std.specs.Prelude.{◌≡◌, List, ◌++◌, suc, ◌+◌, ◌*◌, ◌≤◌, length};
 ghost use Rattle.exact.specs.Ranges.{list_of};
 ghost use Rattle.buffer.specs.Stored.{Stored};

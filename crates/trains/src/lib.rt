@@ -1,4 +1,6 @@
 // The call for a train: its verdict and its rating.
+#![tactic(auto)]
+
 ghost use Rattle.std.specs.Prelude.{◌≡◌, ◌&&◌, ℕ, suc, ◌≤◌, ◌<◌, eqb, pos};
 ghost use Rattle.std.proofs.Math.Option.{none, some};
 ghost use Rattle.exact.specs.Choice.{if◌then◌else◌};

@@ -1,7 +1,7 @@
 -- What a section without a fault gives, and where a fault can be: once, for any layout.
 use mathlib.Core.Path.{◌≡◌, refl, ◌∙◌}
 use mathlib.Core.Bool.{true}
-use mathlib.Core.Option.{Option, none, some, some_injective, none-ne-some, some-ne-none}
+use mathlib.Core.Option.{Option, none, some, some-injective, none-ne-some, some-ne-none}
 use mathlib.Core.List.{List, [], ◌∷◌}
 use Prim.Native.Nat.{ℕ, zero, suc, ◌+◌, ◌*◌, ◌≤◌, ◌<◌}
 use native.Mathlib.Nat.{mul-le-mul, mul-suc, le_refl}
@@ -33,7 +33,7 @@ item_below [] j item r e = absurd (none-ne-some r e)
 item_below (admits ∷ rest) j item r e =
     by_test (admits item (item.word j)) (λ t. (if t then misfit_from (suc j) rest item else some j) ≡ some r → r < j + length (admits ∷ rest))
     (λ _ z. let h = item_below rest (suc j) item r z in omega arith)
-    (λ _ z. let h = some_injective j r z in omega arith) e
+    (λ _ z. let h = some-injective j r z in omega arith) e
 
 -- ---- a section
 pub or_none : (x y : Option ℕ) → or_else x y ≡ none → (x ≡ none) × (y ≡ none)
@@ -65,7 +65,7 @@ moved_none start (some p) e = absurd (some-ne-none _ e)
 
 moved_below : (start n r : ℕ) (o : Option ℕ) → ((p : ℕ) → o ≡ some p → p < n) → moved start o ≡ some r → r < start + n
 moved_below start n r none h e = absurd (none-ne-some r e)
-moved_below start n r (some p) h e = let l = h p refl in let g = some_injective (start + p) r e in omega arith
+moved_below start n r (some p) h e = let l = h p refl in let g = some-injective (start + p) r e in omega arith
 
 -- every field of every item admits its word
 pub fits : (l : Layout) (s : List ℕ) → misfit l s ≡ none → (i q : ℕ) → i < l.items → q < length l.fields →

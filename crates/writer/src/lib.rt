@@ -1,4 +1,6 @@
 // The call that writes a job's standard form.
+#![tactic(auto)]
+
 ghost use Rattle.std.specs.Prelude.{◌≡◌, ◌++◌, ◌+◌, ◌≤◌, length, drop};
 ghost use Rattle.buffer.specs.Stored.{Stored, cleared};
 ghost use Rattle.model.specs.Refusals.{packed};

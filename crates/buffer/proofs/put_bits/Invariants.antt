@@ -1,0 +1,10 @@
+use Prim.Native.Nat.{◌+◌, ◌-◌, ◌≤◌}
+use Rattle.buffer.specs.Stored.{little_endian}
+use Rattle.buffer.proofs.Left.{Left}
+use Rattle.buffer.proofs.put_bits.Given as goal
+
+abbrev pub invariant-loop-i : goal.invariant-loop-i
+invariant-loop-i l = (l.i ≤ 8) × Left l.initial.out l.at (little_endian 8 l.x) l.out (l.at + l.i) (little_endian (8 - l.i) l.rest)
+
+abbrev pub decreases-loop-i : goal.decreases-loop-i
+decreases-loop-i l = 8 - l.i
