@@ -32,7 +32,7 @@ fn sought(job: &[u8], head: Header) -> Senses
 }
 
 // The traffic values of both live kinds, and the number of lanes of each carriageway.
-#[derive(Drop)]
+#[derive(Clone, Copy)]
 pub struct TrafficValues {
     pub normal: Traffic,
     pub overload: Traffic,

@@ -8,7 +8,7 @@ ghost use Rattle.axles.specs.Gathering.{bundle, gathered_of};
 use model::Axle;
 
 // The first twelve axles of a train, and how many it has.
-#[derive(Drop)]
+#[derive(Clone, Copy)]
 pub struct Gathered {
     pub axles: [Axle; 12],
     pub count: usize,

@@ -46,7 +46,7 @@ fn lanes_on(width: usize) -> usize
 }
 
 // A centre in n-ths of a cm and the transverse ordinate there, in thousandths times n g; narrow, since all lanes' are handed on together.
-#[derive(Drop)]
+#[derive(Clone, Copy)]
 pub struct Centre {
     pub ordinate: i32,
     pub at: u32,
@@ -104,7 +104,7 @@ fn best(q: Question, across: &[u8], d: usize, lo: usize, hi: usize) -> Centre
 }
 
 // A lane's greatest and least ordinate.
-#[derive(Drop)]
+#[derive(Clone, Copy)]
 pub struct Span {
     pub greatest: Centre,
     pub least: Centre,
@@ -125,7 +125,7 @@ fn lane_span(across: &[u8], width: usize, n: usize, g: usize, i: usize) -> Span
 }
 
 // The carriageways: the first one's width in cm and lanes; those of the second one, both 0 where it is not there; and the spacing g of their transverse ordinates.
-#[derive(Drop)]
+#[derive(Clone, Copy)]
 struct Decks {
     width: usize,
     lanes: usize,
@@ -177,7 +177,7 @@ fn at_least_one(n: usize) -> usize
 }
 
 // What lies across the line: each lane's span, the lanes of each carriageway and of both, and the sums' denominator, n of both carriageways times g.
-#[derive(Drop)]
+#[derive(Clone, Copy)]
 pub struct Across {
     pub spans: [Span; 10],
     pub first: usize,

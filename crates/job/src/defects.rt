@@ -13,7 +13,7 @@ use limits::Fault;
 use model::{Header, Part};
 
 // What may be wrong with a chain.
-#[derive(Drop)]
+#[derive(Clone, Copy)]
 pub(crate) enum Defect {
     Return,
     Repeat,

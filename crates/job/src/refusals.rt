@@ -19,14 +19,14 @@ use model::{Header, Part};
 use sections::header;
 
 // What a test finds: a place of the job at fault, or nothing.
-#[derive(Drop)]
+#[derive(Clone, Copy)]
 enum Finding {
     At(u32),
     Nothing,
 }
 
 // A refusal's number and place; number 0 is acceptance.
-#[derive(Drop)]
+#[derive(Clone, Copy)]
 pub struct Ruling {
     pub number: u32,
     pub place: u32,

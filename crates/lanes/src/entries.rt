@@ -12,7 +12,7 @@ use exact::Question;
 use model::Sense;
 
 // A lane's best element: its effect, its sense and its centre.
-#[derive(Drop)]
+#[derive(Clone, Copy)]
 pub(crate) struct Chosen {
     pub value: i64,
     pub sense: Sense,

@@ -17,7 +17,7 @@ use model::{Edition, Entry, Extreme, Lane, Placement};
 use sets::Loading;
 
 // Raising and lowering line effects of a kind.
-#[derive(Drop)]
+#[derive(Clone, Copy)]
 pub struct Effects {
     pub raising: i64,
     pub lowering: i64,
@@ -103,7 +103,7 @@ fn found(
 }
 
 // A question's traffic values.
-#[derive(Drop)]
+#[derive(Clone, Copy)]
 pub struct Extremes {
     pub normal: Extreme,
     pub overload: Extreme,

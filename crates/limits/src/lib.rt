@@ -15,7 +15,7 @@ ghost use Rattle.limits.specs.Faults.{place_of, AfterHeader};
 use model::{Edition, Header, Part};
 
 // A place at fault, or none.
-#[derive(Drop)]
+#[derive(Clone, Copy)]
 pub enum Fault {
     At(usize),
     Clear,

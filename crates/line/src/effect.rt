@@ -15,7 +15,7 @@ use exact::Question;
 use model::{Position, Sense};
 
 // Of a sense: twice the line's area over the pieces that it loads, in typeof.dm.U; its best pair of ordinates, and the pair's position.
-#[derive(Drop)]
+#[derive(Clone, Copy)]
 pub struct Sought {
     pub area: i64,
     pub pair: i16,
@@ -51,7 +51,7 @@ fn sought_at(sense: Sense, area: i64, rank: i32, h: usize) -> Sought
 }
 
 // What each sense seeks.
-#[derive(Drop)]
+#[derive(Clone, Copy)]
 pub struct Senses {
     pub raising: Sought,
     pub lowering: Sought,

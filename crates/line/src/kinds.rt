@@ -6,7 +6,7 @@ use crate::effect;
 use crate::effect::Sought;
 
 // The normal element.
-#[derive(Drop)]
+#[derive(Clone, Copy)]
 pub struct Hn {}
 
 impl Hn {
@@ -26,7 +26,7 @@ impl Hn {
 }
 
 // The overload element.
-#[derive(Drop)]
+#[derive(Clone, Copy)]
 pub struct Ho {}
 
 impl Ho {

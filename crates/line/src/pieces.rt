@@ -74,7 +74,7 @@ fn loaded_sum(line: &[u8], i: usize, sense: Sense) -> i16
 }
 
 // Twice the line's area over the pieces that each sense loads, in typeof.dm.U.
-#[derive(Drop)]
+#[derive(Clone, Copy)]
 pub struct Areas {
     pub raising: i64,
     pub lowering: i64,

@@ -18,7 +18,7 @@ use exact::Question;
 use model::Edition;
 
 // An effect as its job states it: so many units, a unit in N.U, and whether it may be left out.
-#[derive(Drop)]
+#[derive(Clone, Copy)]
 pub struct Stated {
     pub number: i64,
     pub unit: i64,
@@ -79,7 +79,7 @@ fn bit_of(e: usize) -> u32
 }
 
 // A term's share of a row's value: its factor times its effect's value; whether it may be left out, and its effect's bit.
-#[derive(Drop)]
+#[derive(Clone, Copy)]
 pub struct Share {
     pub value: i64,
     pub optional: bool,
@@ -110,7 +110,7 @@ fn leaves(q: Question, share: Share) -> bool
 }
 
 // A chain's best value for a question, and the effects left out, a bit an effect.
-#[derive(Drop)]
+#[derive(Clone, Copy)]
 pub struct Chained {
     pub value: i64,
     pub omitted: u32,
@@ -134,14 +134,14 @@ fn extended(q: Question, share: Share, sofar: Chained) -> Chained
 }
 
 // A chain's best for each question.
-#[derive(Drop)]
+#[derive(Clone, Copy)]
 pub struct ChainedBoth {
     pub greatest: Chained,
     pub least: Chained,
 }
 
 // A chain of records: its best for each question, and its length.
-#[derive(Drop)]
+#[derive(Clone, Copy)]
 pub struct Walked {
     pub best: ChainedBoth,
     pub length: usize,

@@ -31,7 +31,7 @@ fn places_apart(h: usize) -> usize
 }
 
 // The pair's ordinates, with its station and side.
-#[derive(Drop)]
+#[derive(Clone, Copy)]
 pub struct Stand {
     pub value: i16,
     pub station: usize,
@@ -70,7 +70,7 @@ fn improved(q: Question, best: i32, v: i16, place: usize) -> i32
 }
 
 // The best ranks, for greatest and for least.
-#[derive(Drop)]
+#[derive(Clone, Copy)]
 pub struct Ranks {
     pub greatest: i32,
     pub least: i32,
@@ -88,7 +88,7 @@ fn ranked(best: Ranks, v: i16, place: usize) -> Ranks
 }
 
 // Which axles are on the line, and how many words behind the right one the left one is.
-#[derive(Drop)]
+#[derive(Clone, Copy)]
 enum Axles {
     Ahead,
     Both(usize),

@@ -21,14 +21,14 @@ use model::{Edition, Governing, Header, State};
 use omissions::{Chained, ChainedBoth};
 
 // The best traffic value of each live kind for one question, in N.U.
-#[derive(Drop)]
+#[derive(Clone, Copy)]
 pub struct LiveValues {
     pub normal: i64,
     pub overload: i64,
 }
 
 // The best traffic values for both questions.
-#[derive(Drop)]
+#[derive(Clone, Copy)]
 pub struct LiveBoth {
     pub greatest: LiveValues,
     pub least: LiveValues,
@@ -90,7 +90,7 @@ fn laden(q: Question, r: usize, k: u16, chain: Chained, loaded: i64) -> Governin
 }
 
 // A row's best value for each question; row 0 stands for none.
-#[derive(Drop)]
+#[derive(Clone, Copy)]
 pub struct RowBoth {
     pub greatest: Governing,
     pub least: Governing,
@@ -116,7 +116,7 @@ fn first_record(rows: &[u8], r: usize) -> usize
 }
 
 // A row at its best for each question, and the length of its chain in records.
-#[derive(Drop)]
+#[derive(Clone, Copy)]
 pub struct RowWalked {
     pub best: RowBoth,
     pub length: usize,
@@ -234,7 +234,7 @@ fn row(
 }
 
 // The governing rows so far, of each limit state for each question, and the records walked.
-#[derive(Drop)]
+#[derive(Clone, Copy)]
 pub struct Found {
     pub service: RowBoth,
     pub ultimate: RowBoth,
@@ -331,7 +331,7 @@ fn state(rows: RowBoth) -> State
 }
 
 // The two limit states, and the records walked.
-#[derive(Drop)]
+#[derive(Clone, Copy)]
 pub struct LimitStates {
     pub service: State,
     pub ultimate: State,

@@ -110,7 +110,7 @@ fn twentieths(m: u32) -> u16
 // ---- a set and its sum
 
 // A set of lanes and the sum of what they give, in 75 N.U times thousandths times the sums' denominator, and times twentieths where they are at factors.
-#[derive(Drop)]
+#[derive(Clone, Copy)]
 struct Group {
     set: u32,
     sum: i64,
@@ -131,7 +131,7 @@ fn joined(group: Group, loaded: bool, i: usize, value: i64) -> Group
 }
 
 // A live kind's sum in 75 N.U times thousandths, twentieths and the sums' denominator; its HO lane, 10 where there is none; the set of its HN lanes; each lane's factor in twentieths, 0 where it is not additional.
-#[derive(Drop)]
+#[derive(Clone, Copy)]
 pub struct Loading {
     pub value: i64,
     pub lane: usize,
@@ -233,7 +233,7 @@ fn factor(q: Question, ranks: [u32; 10], hn: [i64; 10], o: usize, i: usize) -> u
 }
 
 // The additional lanes beside an HO lane, and each lane's factor.
-#[derive(Drop)]
+#[derive(Clone, Copy)]
 struct Others {
     group: Group,
     factors: [u16; 10],

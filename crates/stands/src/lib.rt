@@ -23,7 +23,7 @@ use exact::Question;
 use model::{Axle, Mode, Rating, Side, TrainExtreme, Way};
 
 // A train one way round: each axle's distance from the leftmost and the train's length, in pieces.
-#[derive(Drop)]
+#[derive(Clone, Copy)]
 pub struct Spaced {
     pub axles: [Axle; 12],
     pub count: usize,
@@ -52,7 +52,7 @@ fn counted(mode: Mode, q: Question, x: i64) -> i64
 }
 
 // What a train counts, for greatest and for least.
-#[derive(Drop)]
+#[derive(Clone, Copy)]
 pub struct Sums {
     pub greatest: i64,
     pub least: i64,
@@ -71,7 +71,7 @@ fn added(mode: Mode, s: Sums, load: u32, ordinate: i16) -> Sums
 }
 
 // What a train counts at the ends of a run.
-#[derive(Drop)]
+#[derive(Clone, Copy)]
 pub struct Ends {
     pub left: Sums,
     pub right: Sums,
@@ -123,7 +123,7 @@ fn run(line: &[u8], n: usize, mode: Mode, train: Spaced, m: usize) -> Ends
 }
 
 // The best so far, and its place.
-#[derive(Drop)]
+#[derive(Clone, Copy)]
 pub struct Best {
     pub value: i64,
     pub place: usize,
@@ -140,7 +140,7 @@ fn improved(q: Question, best: Best, value: i64, place: usize) -> Best
 }
 
 // The best for greatest and for least.
-#[derive(Drop)]
+#[derive(Clone, Copy)]
 pub struct Bests {
     pub greatest: Best,
     pub least: Best,
