@@ -11,27 +11,21 @@ use Rattle.words.proofs.Fits.{below}
 use Rattle.limits.proofs.misfit.Goals as goal
 
 -- the place at fault, where item i has one: as the code adds it up
-module _ (c : goal.After-item_words invariant-loop decreases-loop) where
-  abbrev item : goal.After-item_misfit-fault invariant-loop decreases-loop
-  item = c.before.before.before.before
-
-  abbrev st : goal.Start invariant-loop decreases-loop
-  st = item.before.before.before.before.before
-
+module _ (c : goal.After-item_words) where
   abbrev place : ℕ
-  place = c.item-words.result * item.before.before.loop.i + c.before.before.fault.given.0.0
+  place = c.item_words.result * c.loop-i.i + c.in-At.j
 
-  found : misfit (format st.args.head st.args.part) st.args.s.now ≡ some place
+  found : misfit (format c.args.head c.args.part) c.args.s.now ≡ some place
   unfolding misfit
   found =
-      let i = item.before.before.loop.i in
-      let j = c.before.before.fault.given.0.0 in
-      let e = item.before.before.before.items.ensures.0 in
-      search_found item.before.before.loop.inv (omega arith) (ap (moved _) (sym item.item-misfit.ensures ∙ ap place_of c.before.before.fault.given.1))
-      ∙ ap (λ (w : ℕ). some (w * i + j)) (sym c.item-words.ensures.0)
+      let i = c.loop-i.i in
+      let j = c.in-At.j in
+      let e = c.items-i-end.ensures.0 in
+      search_found c.loop-i.invariant (omega arith) (ap (moved _) (sym c.item_misfit-fault.ensures ∙ ap place_of c.in-At.is))
+      ∙ ap (λ (w : ℕ). some (w * i + j)) (sym c.item_words.ensures.0)
 
   small : place ≤ 27040
-  small = few_words st.args.head st.args.part st.pre.1 (below (format st.args.head st.args.part) _ place found)
+  small = few_words c.args.head c.args.part c.requires.1 (below (format c.args.head c.args.part) _ place found)
 
 pub item_misfit-fault-requires : goal.item_misfit-fault-requires
 item_misfit-fault-requires c = (c.requires.0, omega (arith, c.items-i-end.ensures.0), c.requires.2)
