@@ -1,0 +1,15 @@
+use mathlib.Core.Path.{refl}
+use Rattle.headers.proofs.listed_counts.Goals as goal
+
+pub returns : goal.returns
+returns c more later =
+    rw (
+      c.field.ensures,
+      c.in_range-3.ensures,
+      c.field-rows.ensures,
+      c.in_range-2.ensures,
+      c.field-records.ensures,
+      c.in_range.ensures,
+      later,
+    )
+    refl
