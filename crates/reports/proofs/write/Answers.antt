@@ -16,6 +16,6 @@ returns c =
     let r = c.args.r in
     let g : SFits w64 r.greatest.value = search rules in
     let l : SFits w64 r.least.value = search rules in
-    let d : SFits w64 r.difference = record { sfits = c.struct_told-3-1.given.1.1.0.1 } in
+    let d : SFits w64 r.difference = search rules in
     let values = and_then (and_then (signed g c.put_signed-end.ensures) (signed l c.put_signed-end-2.ensures)) (signed d c.put_signed-end-3.ensures) in
     in_front (and_then (and_then values c.put_stand-end.ensures) c.put_stand.ensures) refl c.requires
