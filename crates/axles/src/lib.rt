@@ -1,4 +1,4 @@
-// A train, lent as a slice of axles, as one value. `axle` and `gather` have such a slice and are proved by hand; code over the value is covered.
+// A train, lent as a slice of axles, as one value.
 #![tactic(auto)]
 
 ghost use Rattle.std.specs.Prelude.{◌≡◌};

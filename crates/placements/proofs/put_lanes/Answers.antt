@@ -1,5 +1,5 @@
 use mathlib.Core.Path.{◌≡◌, refl, sym, ap}
-use Prim.Native.Nat.{ℕ, zero, suc, ◌*◌, ◌-◌}
+use Prim.Native.Nat.{ℕ, zero, suc, ◌*◌}
 use native.Mathlib.Omega.{arith}
 use native.Mathlib.Numerals.{add-one}
 use lib.ListN.{length, length-append}
@@ -31,7 +31,7 @@ returns c =
     let l = c.loop-i in
     let a = c.args in
     let e : l.i ≡ 10 = omega arith in
-    retold (ap (lanes_numbers a.t3) e) l.invariant.1
+    retold (ap (lanes_numbers a.p) e) l.invariant.1
 
 pub loop-i-init : goal.loop-i-init
 loop-i-init c = (omega arith, nothing _)

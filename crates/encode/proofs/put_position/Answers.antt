@@ -1,0 +1,11 @@
+use mir.Syntax.{w64}
+use mir.Val.{SFits}
+use Rattle.numbers.proofs.Stores.{and_then, natural, signed}
+use borrow.Author.Rules.{rules}
+use Rattle.encode.proofs.put_position.Goals as goal
+
+pub returns : goal.returns
+returns c =
+    let p = c.args.p in
+    let f : SFits w64 p.station = search rules in
+    and_then (signed f c.put_signed-end.ensures) (natural c.side_number.ensures.0 c.put_count.ensures)
