@@ -14,7 +14,7 @@ use crate::pieces;
 use exact::Question;
 use model::{Position, Sense};
 
-// Of a sense: twice the line's area over the pieces that it loads, in typeof.dm.U; its best pair of ordinates, and the pair's position.
+// Of a sense: twice the line's area over the pieces that it loads, in dm·U; its best pair of ordinates, and the pair's position.
 #[derive(Clone, Copy)]
 pub struct Sought {
     pub area: i64,

@@ -10,10 +10,10 @@ use crate::effect::Sought;
 pub struct Hn {}
 
 impl Hn {
-    // An axle on an ordinate of 1, in 75 N.U.
+    // An axle on an ordinate of 1, in 75 N·U.
     pub const AXLE: i64 = 1600;
 
-    // Uniform load on 1 dm of an ordinate sum of 1, in 75 N.U.
+    // Uniform load on 1 dm of an ordinate sum of 1, in 75 N·U.
     pub const UNIFORM: i64 = 7;
 
     // Its line effect, by what its sense seeks.

@@ -73,7 +73,7 @@ fn loaded_sum(line: &[u8], i: usize, sense: Sense) -> i16
     0
 }
 
-// Twice the line's area over the pieces that each sense loads, in typeof.dm.U.
+// Twice the line's area over the pieces that each sense loads, in dm·U.
 #[derive(Clone, Copy)]
 pub struct Areas {
     pub raising: i64,
