@@ -7,7 +7,7 @@ use Prim.Native.Nat.{ℕ, ◌+◌, ◌-◌, ◌*◌, ◌≤◌, ◌<◌}
 use native.Mathlib.Omega.{arith}
 use lib.Dec.{eqb}
 use lib.ListN.{length}
-use borrow.Author.Tests.{eq-eqb, ne_eqb, not_true}
+use borrow.Author.Tests.{eq-eqb, ne_eqb, not-true}
 use Rattle.exact.specs.Choice.{if◌then◌else◌}
 use Rattle.exact.proofs.Bridge.{by_test}
 use Rattle.words.specs.Words.{count_at}
@@ -87,7 +87,7 @@ module _ (b : List ℕ) {head : Header} (z : Sized b head) where
     none_returns e = rows_same b (λ i h. ap not (names_none _ _ _ (record { first = first_most i h; next = next_most }) (once i h) ∙ sym (once i h))) ∙ e
       where
         once : (i : ℕ) → i < (header_of b).rows → chain_names_twice b (i + 1) ≡ false
-        once i h = not_true _ (first_fits (row_tests (header_of b).rows (chain_passes Repeat b)) (section_of b Rows) (moved_none _ _ e) i h (omega arith))
+        once i h = not-true _ (first_fits (row_tests (header_of b).rows (chain_passes Repeat b)) (section_of b Rows) (moved_none _ _ e) i h (omega arith))
 
     -- what the code requires of row i's chain
     pub chain_there : (i : ℕ) → i < (header_of b).rows → {records : List ℕ} {f n : ℕ} → records ≡ section_of b Records → f ≡ first_record (section_of b Rows) (i + 1) → n ≡ (header_of b).records →
