@@ -1,4 +1,4 @@
-// A rating as bytes for a host: nine numbers of eight bytes each, in two's complement, lowest byte first, in the order of `reportNumbers`.
+// A rating as bytes for a host: nine numbers of eight bytes each, in two's complement, lowest byte first, in the order of `report_numbers`.
 #![tactic(auto)]
 
 ghost use Rattle.std.specs.Prelude.{◌≡◌, ◌++◌, ◌+◌, ◌≤◌, ◌<◌, length, drop};
