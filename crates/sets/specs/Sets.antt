@@ -13,7 +13,7 @@ use Rattle.magnitudes.specs.Magnitudes.{hn_lane_most, factored_most, sum_most}
 use Rattle.sets.specs.declared.Group.{Group}
 use Rattle.sets.specs.declared.Loading.{Loading}
 
--- lane i's value: 75 N-as-U times thousandths times the sums' denominator
+-- lane i's value: 75 N·U times thousandths times the sums' denominator
 abbrev pub value_at : List ℤ → ℕ → ℤ
 value_at values i = get_or values i (pos 0)
 

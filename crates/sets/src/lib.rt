@@ -109,7 +109,7 @@ fn twentieths(m: u32) -> u16
 
 // ---- a set and its sum
 
-// A set of lanes and the sum of what they give, in 75 N.U times thousandths times the sums' denominator, and times twentieths where they are at factors.
+// A set of lanes and the sum of what they give, in 75 N·U times thousandths times the sums' denominator, and times twentieths where they are at factors.
 #[derive(Clone, Copy)]
 struct Group {
     set: u32,
@@ -130,7 +130,7 @@ fn joined(group: Group, loaded: bool, i: usize, value: i64) -> Group
     group
 }
 
-// A live kind's sum in 75 N.U times thousandths, twentieths and the sums' denominator; its HO lane, 10 where there is none; the set of its HN lanes; each lane's factor in twentieths, 0 where it is not additional.
+// A live kind's sum in 75 N·U times thousandths, twentieths and the sums' denominator; its HO lane, 10 where there is none; the set of its HN lanes; each lane's factor in twentieths, 0 where it is not additional.
 #[derive(Clone, Copy)]
 pub struct Loading {
     pub value: i64,
