@@ -4,7 +4,6 @@ use mathlib.Core.List.{List}
 use Prim.Native.Nat.{ℕ, ◌+◌, ◌*◌, ◌/◌}
 use native.Mathlib.Omega.{arith}
 use lib.IntN.{ℤ, pos, ◌-ℤ◌, ◌*ℤ◌}
-use lib.ListN.{length}
 use Rattle.exact.specs.Bounds.{Within}
 use Rattle.exact.specs.Choice.{if◌then◌else◌}
 use Rattle.exact.specs.Questions.{better, beats, NoBetter, extreme}
