@@ -55,10 +55,10 @@ fn put_low(out: &mut [u8], at: usize, k: usize, x: u64) -> usize
     requires { at + k ≤ length out.old }
     ensures { Stored out.old at (little_endian k x) out.new result }
 {
-    let mut rest = x;
+    let mut left = x;
     for i in 0..k {
-        out[at + i] = (rest % 256) as u8;
-        rest = rest / 256;
+        out[at + i] = (left % 256) as u8;
+        left = left / 256;
     }
     at + k
 }

@@ -19,14 +19,14 @@ loop-i-preserved c =
     let l = c.loop-i in
     let n = c.args.k in
     let e : n - l.i ≡ suc (n - (l.i + 1)) = omega arith in
-    (omega arith, one_less (ap (λ (k : ℕ). little_endian k l.rest) e) (omega arith) l.invariant.1)
+    (omega arith, one_less (ap (λ (k : ℕ). little_endian k l.left) e) (omega arith) l.invariant.1)
 
 pub returns : goal.returns
 returns c =
     let l = c.loop-i in
     let n = c.args.k in
     let e : n - l.i ≡ 0 = omega arith in
-    none_left (ap (λ (k : ℕ). little_endian k l.rest) e) (omega arith) l.invariant.1
+    none_left (ap (λ (k : ℕ). little_endian k l.left) e) (omega arith) l.invariant.1
 
 pub shape_of-out : goal.shape_of-out
 shape_of-out c = c.loop-i.invariant.1.size
