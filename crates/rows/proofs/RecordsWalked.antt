@@ -7,12 +7,12 @@ use Prim.Native.Nat.{ℕ, ◌+◌, ◌*◌, ◌≤◌}
 use native.Mathlib.Nat.{le_refl, le_trans, mul-le-mul_right}
 use native.Mathlib.Omega.{arith}
 use lib.ListN.{length}
-use Rattle.model.specs.Job.{Row, Profile, highway, rural}
+use Rattle.model.specs.Job.{Profile, highway, rural}
 use Rattle.model.specs.Format.{profile_of, header_of, bytes}
 use Rattle.model.specs.Chains.{record_effect}
 use Rattle.model.specs.Decode.{first_record, terms_from, row_count, row_of, decode}
 use Rattle.model.specs.Refusals.{job_verdict}
-use Rattle.model.specs.RecordsWalked.{chain_length, walked_to, records_walked}
+use Rattle.model.specs.RecordsWalked.{walked_to, records_walked}
 use Rattle.model.specs.declared.Header.{Header}
 use Rattle.model.specs.declared.Part.TheVariants.{Records}
 use Rattle.model.proofs.Verdict.{clear}
