@@ -1,6 +1,6 @@
 -- The best rank: it is within its bound, and the stand of its place has the sense's best pair.
 use mathlib.Core.Path.{◌≡◌, sym, ap₂, subst}
-use Prim.Native.Nat.{ℕ, ◌+◌, ◌-◌, ◌*◌, ◌/◌, ◌≤◌}
+use Prim.Native.Nat.{ℕ, ◌+◌, ◌*◌, ◌/◌, ◌≤◌}
 use native.Mathlib.Omega.{arith}
 use lib.IntN.{ℤ, pos}
 use Rattle.exact.specs.Bounds.{Within}
