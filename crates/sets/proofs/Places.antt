@@ -7,7 +7,7 @@ use native.Mathlib.Numerals.{add-one}
 use native.Mathlib.Omega.{arith}
 use lib.IntN.{ℤ}
 use lib.Dec.{ltb, eqb}
-use borrow.Author.Tests.{ltb-true, ltb-false, not_true, not-false, eqb-true, eqb-false, lt-ltb, le-ltb}
+use borrow.Author.Tests.{ltb-true, ltb-false, not-true, not-false, eqb-true, eqb-false, lt-ltb, le-ltb}
 use Rattle.exact.specs.Choice.{if◌then◌else◌}
 use Rattle.exact.specs.Questions.{beats, NoBetter}
 use Rattle.exact.specs.Ranges.{count_to}
@@ -34,7 +34,7 @@ module _ (q : Question) (v : ℕ → ℤ) where
   pub precedes_true : (k i : ℕ) → precedes q v k i ≡ true → Precedes q v k i
   precedes_true k i =
       by_test (ltb k i) (λ t. (if t then not (beats q (v i) (v k)) else beats q (v k) (v i)) ≡ true → Precedes q v k i)
-      (λ l e. let h = ltb-true k i l in record { no_worse = (beats_no q (v i) (v k) (not_true _ e)).0; tied = λ m. absurd (omega arith) })
+      (λ l e. let h = ltb-true k i l in record { no_worse = (beats_no q (v i) (v k) (not-true _ e)).0; tied = λ m. absurd (omega arith) })
       (λ l e. record { no_worse = (beats_yes q (v k) (v i) e).0; tied = λ m. beats_strict q (v k) (v i) e })
 
   pub precedes_false : (k i : ℕ) → precedes q v k i ≡ false → ¬ (k ≡ i) → Precedes q v i k

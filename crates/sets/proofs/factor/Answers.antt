@@ -1,0 +1,40 @@
+use mathlib.Core.Path.{◌≡◌, refl, sym, ◌∙◌, ap, ap₂}
+use mathlib.Core.Bool.{Bool}
+use mathlib.Core.List.{List}
+use Prim.Native.Nat.{ℕ, ◌-◌}
+use native.Mathlib.Omega.{arith}
+use lib.IntN.{ℤ, pos}
+use lib.Dec.{ltb, eqb, lit<}
+use mir.Syntax.{w64}
+use borrow.Author.Tests.{eq-eqb, ne_eqb}
+use Rattle.exact.specs.Choice.{if◌then◌else◌}
+use Rattle.exact.specs.Questions.{beats}
+use Rattle.exact.specs.declared.Question.{Question}
+use Rattle.exact.proofs.Held.{known, lit, beats_held}
+use Rattle.model.specs.Lanes.{additional}
+use Rattle.sets.specs.Sets.{value_at, number_at, factor_by_rank}
+use Rattle.sets.proofs.factor.Goals as goal
+
+module _ (q : Question) (ranks : List ℕ) (hn : List ℤ) (o i : ℕ) where
+  -- by whether the lane has HO, and whether its value beats 0
+  abbrev by : (isHo more : Bool) → ℕ
+  by isHo more = let r = number_at ranks in if isHo then 0 else (if more then additional (if ltb (r o) (r i) then r i - 1 else r i) else 0)
+
+  is : {t u : Bool} → eqb i o ≡ t → beats q (value_at hn i) (pos 0) ≡ u → by t u ≡ factor_by_rank q (number_at ranks) (value_at hn) o i
+  unfolding factor_by_rank
+  is a b = sym (ap₂ by a b)
+
+pub returns-then-i-o : goal.returns-then-i-o
+returns-then-i-o c = let a = c.args in (is a.q a.ranks a.hn a.o a.i (eq-eqb a.i a.o c.if-i-o.true) refl, omega arith)
+
+pub returns-then-beats : goal.returns-then-beats
+returns-then-beats c =
+    let a = c.args in
+    let more = beats_held (known w64 c.requires.3 (lit< tt)) (lit w64 0 (lit< tt)) a.q c.beats.ensures c.if-beats.true in
+    (c.additional.ensures.0 ∙ ap additional c.place.ensures.0 ∙ is a.q a.ranks a.hn a.o a.i (ne_eqb a.i a.o c.if-i-o.false) more, c.additional.ensures.1)
+
+pub returns : goal.returns
+returns c =
+    let a = c.args in
+    let more = beats_held (known w64 c.requires.3 (lit< tt)) (lit w64 0 (lit< tt)) a.q c.beats.ensures c.if-beats.false in
+    (is a.q a.ranks a.hn a.o a.i (ne_eqb a.i a.o c.if-i-o.false) more, omega arith)
