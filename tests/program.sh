@@ -4,7 +4,7 @@
 set -u
 cd "$(dirname "$0")/.." || exit 2
 
-program=target/bin/hnho
+program=crates/hnho/out/hnho
 dir=target/program
 
 fail() {
@@ -50,7 +50,7 @@ run_cut() {
 
 command -v rt >/dev/null || fail 'rt is not on PATH'
 mkdir -p "$dir" || fail "$dir cannot be made"
-rt check hnho >"$dir/rt.log" 2>&1 || { tail -n 20 "$dir/rt.log" >&2; fail 'rt check hnho'; }
+rt run hnho </dev/null >"$dir/rt.log" 2>&1 || { tail -n 20 "$dir/rt.log" >&2; fail 'rt run hnho'; }
 
 job=examples/job-a.bin
 text=$(cat crates/hnho/stdout)$'\n'
