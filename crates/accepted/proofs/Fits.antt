@@ -1,4 +1,5 @@
 -- What an accepted job gives each part of its account: its section has its words, within their limits.
+use Rattle.std.specs.Prelude.{if◌then◌else◌}
 use mathlib.Core.Path.{◌≡◌, refl, sym, ap, subst}
 use mathlib.Core.Logic.{◌⊎◌, inl, inr}
 use mathlib.Core.Bool.{Bool}
@@ -9,7 +10,6 @@ use lib.IntN.{ℤ}
 use borrow.Author.Tests.{ne_eqb}
 use lib.ListN.{length}
 use Rattle.exact.specs.Bounds.{Within}
-use Rattle.exact.specs.Choice.{if◌then◌else◌}
 use Rattle.exact.specs.declared.Question.{Question}
 use Rattle.words.specs.Words.{word_at}
 use Rattle.model.specs.Job.{rural, Live, Limit}

@@ -1,4 +1,5 @@
 -- What the traffic values ask of an accepted job: its line effects, what lies across and the dynamic factors.
+use Rattle.std.specs.Prelude.{if◌then◌else◌}
 use mathlib.Core.Path.{◌≡◌, refl, sym, ◌∙◌, ap, ap₂, subst}
 use mathlib.Core.Logic.{◌⊎◌, inl, inr}
 use mathlib.Core.Bool.{true}
@@ -12,7 +13,6 @@ use mir.Syntax.{w64}
 use mir.Val.{to_z, of_z}
 use borrow.Author.Tests.{lt-ltb}
 use Rattle.exact.specs.Bounds.{Within}
-use Rattle.exact.specs.Choice.{if◌then◌else◌}
 use Rattle.exact.specs.Parts.{up}
 use Rattle.exact.proofs.Bounds.{within_le, within_pos, within_mul}
 use Rattle.exact.proofs.Bridge.{by_test}

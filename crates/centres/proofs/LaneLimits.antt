@@ -1,4 +1,5 @@
 -- A lane's limits: they leave room for a centre, and the section has the ordinates for every centre between them.
+use Rattle.std.specs.Prelude.{if◌then◌else◌}
 use mathlib.Core.Path.{◌≡◌, refl, sym, ◌∙◌, ap, ap₂, subst}
 use mathlib.Core.Bool.{false}
 use mathlib.Core.List.{List, []}
@@ -11,7 +12,6 @@ use lib.ListN.{get_or}
 use lib.Dec.{eqb}
 use borrow.Author.Tests.{eqb-false, lt-ltb, le-ltb}
 use lib.Signed.{◌≤ℤ◌}
-use Rattle.exact.specs.Choice.{if◌then◌else◌}
 use Rattle.exact.specs.Questions.{NoBetter, extreme}
 use Rattle.exact.specs.declared.Question.{Question}
 use Rattle.exact.specs.declared.Question.TheVariants.{Greatest, Least}

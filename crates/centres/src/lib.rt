@@ -1,9 +1,8 @@
 // What lies across the line: the number of lanes, the limits of each, and its centres with the greatest and the least transverse ordinate.
 #![tactic(auto)]
 
-ghost use Rattle.std.specs.Prelude.{◌≡◌, ℕ, ◌+◌, ◌/◌, ◌≤◌, ◌<◌, ◌^◌, max, eqb, get_or};
+ghost use Rattle.std.specs.Prelude.{◌≡◌, ℕ, ◌+◌, ◌/◌, ◌≤◌, ◌<◌, ◌^◌, max, eqb, get_or, if◌then◌else◌};
 ghost use Rattle.exact.specs.Bounds.{Within};
-ghost use Rattle.exact.specs.Choice.{if◌then◌else◌};
 ghost use Rattle.model.specs.Job.{Job};
 ghost use Rattle.model.specs.Lanes.{lane_count, lanes, deck_of, number_on};
 ghost use Rattle.model.specs.Decode.{carriageway};

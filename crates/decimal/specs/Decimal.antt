@@ -1,9 +1,8 @@
 -- Numbers as decimal text in ASCII bytes, with a minus where below 0 and no zeros in front.
-use Rattle.std.specs.Prelude.{ℕ, zero, suc, ◌+◌, ◌-◌, ◌*◌, ◌/◌, ◌%◌, List, [], ◌∷◌, ◌++◌, ltb, ℤ, pos, negsuc}
+use Rattle.std.specs.Prelude.{ℕ, zero, suc, ◌+◌, ◌-◌, ◌*◌, ◌/◌, ◌%◌, List, [], ◌∷◌, ◌++◌, ltb, ℤ, pos, negsuc, if◌then◌else◌}
 use Prim.Native.Char.{code}
 use Prim.Native.String.{String}
 use Prim.Native.String as String
-use Rattle.exact.specs.Choice.{if◌then◌else◌}
 
 -- the codes of a quoted text
 abbrev pub ascii : String → List ℕ

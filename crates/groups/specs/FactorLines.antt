@@ -1,6 +1,5 @@
 -- The lines of the table of factors: rows 1 to 20, then the second alternative of the row with k.
-use Rattle.std.specs.Prelude.{ℕ, suc, ltb}
-use Rattle.exact.specs.Choice.{if◌then◌else◌}
+use Rattle.std.specs.Prelude.{ℕ, suc, ltb, if◌then◌else◌}
 use Rattle.model.specs.RuralBridges.{thousandths, group, group_rows, row_with_k}
 
 -- a line's row

@@ -1,4 +1,5 @@
 -- Refusal 1 by its three tests, and the words that an edition calls for.
+use Rattle.std.specs.Prelude.{if◌then◌else◌}
 use mathlib.Core.Path.{◌≡◌, refl, ◌∙◌, ap}
 use mathlib.Core.Bool.{Bool, true, false, ◌&&◌}
 use mathlib.Core.Option.{some}
@@ -8,7 +9,6 @@ use lib.Dec.{eqb, leb}
 use lib.IntN.{ℤ}
 use lib.ListN.{length}
 use borrow.Author.Tests.{le-leb}
-use Rattle.exact.specs.Choice.{if◌then◌else◌}
 use Rattle.words.specs.Words.{word_at}
 use Rattle.words.specs.Fields.{free}
 use Rattle.model.specs.Format.{header_of, is, edition_number, edition_of, table_counts, words}

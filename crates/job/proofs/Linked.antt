@@ -1,4 +1,5 @@
 -- The chains of a job whose words are within their limits.
+use Rattle.std.specs.Prelude.{if◌then◌else◌}
 use mathlib.Core.Path.{◌≡◌, sym, ◌∙◌, ap, ap₂, subst}
 use mathlib.Core.Bool.{Bool, false, not, ◌||◌}
 use mathlib.Core.Option.{none, some}
@@ -8,7 +9,6 @@ use native.Mathlib.Omega.{arith}
 use lib.Dec.{eqb}
 use lib.ListN.{length}
 use borrow.Author.Tests.{eq-eqb, ne_eqb, not-true}
-use Rattle.exact.specs.Choice.{if◌then◌else◌}
 use Rattle.exact.proofs.Bridge.{by_test}
 use Rattle.words.specs.Words.{count_at}
 use Rattle.words.specs.Fields.{moved, misfit}

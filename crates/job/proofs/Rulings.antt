@@ -1,4 +1,5 @@
 -- How the verdict goes from test to test.
+use Rattle.std.specs.Prelude.{if◌then◌else◌}
 use mathlib.Core.Path.{◌≡◌, refl, sym, ◌∙◌, ap, subst}
 use mathlib.Core.Bool.{Bool, true, false}
 use mathlib.Core.Option.{Option, none, some, none-ne-some}
@@ -10,7 +11,6 @@ use lib.IntN.{pos}
 use lib.ListN.{length, get_or}
 use Rattle.model.specs.declared.Part.TheVariants.{Head}
 use borrow.Author.Tests.{ne_eqb, eq-eqb, lt-leb}
-use Rattle.exact.specs.Choice.{if◌then◌else◌}
 use Rattle.words.specs.Words.{word_at}
 use Rattle.model.specs.Format.{profile_of, is, header_of, words}
 use Rattle.model.specs.Job.{Profile, highway, rural}

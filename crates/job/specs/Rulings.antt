@@ -1,7 +1,6 @@
 -- What a test finds and what is ruled, as the definitions have them.
-use Rattle.std.specs.Prelude.{◌≡◌, ℕ, ◌≤◌, ◌<◌, List, eqb, get_or}
+use Rattle.std.specs.Prelude.{◌≡◌, ℕ, ◌≤◌, ◌<◌, List, eqb, get_or, if◌then◌else◌}
 use Rattle.std.proofs.Math.Option.{Option, none, some}
-use Rattle.exact.specs.Choice.{if◌then◌else◌}
 use Rattle.model.specs.Format.{header_of}
 use Rattle.model.specs.Refusals.{Refusal, Test, ◌finds◌, job_tests}
 use Rattle.model.specs.declared.Header.{Header}

@@ -1,10 +1,10 @@
 // The lowest place at fault in a part after the header, item by item, by the limits of its row of the table. Places count from the part's first word.
 #![tactic(auto)]
 
-ghost use Rattle.std.specs.Prelude.{◌≡◌, ℕ, ◌+◌, ◌*◌, ◌≤◌, ◌<◌, pos, neg_ℤ, ltb, length};
+ghost use Rattle.std.specs.Prelude.{◌≡◌, ℕ, ◌+◌, ◌*◌, ◌≤◌, ◌<◌, pos, neg_ℤ, ltb, length, if◌then◌else◌};
 ghost use Rattle.std.proofs.Math.Option.{some};
 ghost use Rattle.exact.specs.Bounds.{Within};
-ghost use Rattle.exact.specs.Choice.{if◌then◌else◌, between};
+ghost use Rattle.exact.specs.Choice.{between};
 ghost use Rattle.words.specs.Words.{word_at, wide};
 ghost use Rattle.words.specs.Fields.{misfit_from, item_from, misfit};
 ghost use Rattle.model.specs.Format.{profile_of, kilonewtons, newtons, effect_unit, is, ordinate_limit, across_layout, mark, effect_fields, format, size, bytes, effect_size, words};

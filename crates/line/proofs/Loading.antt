@@ -1,4 +1,5 @@
 -- Which pieces an element of a sense loads, by their ordinate sums: at most one sense's.
+use Rattle.std.specs.Prelude.{if◌then◌else◌}
 use mathlib.Core.Path.{◌≡◌, refl}
 use mathlib.Core.Bool.{Bool, true, false}
 use Prim.Native.Nat.{ℕ, ◌+◌, ◌≤◌}
@@ -6,7 +7,6 @@ use native.Mathlib.Omega.{arith}
 use lib.Dec.{eqb}
 use lib.IntN.{pos}
 use lib.Signed.{lt_z}
-use Rattle.exact.specs.Choice.{if◌then◌else◌}
 use Rattle.exact.specs.Questions.{beats}
 use Rattle.exact.proofs.Bridge.{by_test}
 use Rattle.exact.proofs.Tests.{lt_one_way}

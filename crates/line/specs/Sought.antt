@@ -1,6 +1,5 @@
 -- What is sought of a line for each sense, and the line effects of the kinds by it.
-use Rattle.std.specs.Prelude.{ℕ, ◌+◌, ◌*◌, ◌≤◌, ◌≡◌, eqb, ℤ, pos, ◌*ℤ◌}
-use Rattle.exact.specs.Choice.{if◌then◌else◌}
+use Rattle.std.specs.Prelude.{ℕ, ◌+◌, ◌*◌, ◌≤◌, ◌≡◌, eqb, ℤ, pos, ◌*ℤ◌, if◌then◌else◌}
 use Rattle.exact.specs.Bounds.{Within}
 use Rattle.exact.specs.Ranges.{sum_to}
 use Rattle.magnitudes.specs.Magnitudes.{pair_most, area_most, line_most}

@@ -1,7 +1,6 @@
 // Whole pieces: their ordinate sums, patch bytes and areas.
-ghost use Rattle.std.specs.Prelude.{◌≡◌, ◌++◌, ℕ, ◌*◌, ◌≤◌, pos, length, drop};
+ghost use Rattle.std.specs.Prelude.{◌≡◌, ◌++◌, ℕ, ◌*◌, ◌≤◌, pos, length, drop, if◌then◌else◌};
 ghost use Rattle.exact.specs.Bounds.{Within};
-ghost use Rattle.exact.specs.Choice.{if◌then◌else◌};
 ghost use Rattle.exact.specs.Questions.{beats};
 ghost use Rattle.magnitudes.specs.Magnitudes.{pair_most, area_most};
 ghost use Rattle.model.specs.Decode.{piece_at, influence_line};

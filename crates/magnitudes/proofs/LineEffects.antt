@@ -1,4 +1,5 @@
 -- How far from zero a line's effects are, by its ordinates.
+use Rattle.std.specs.Prelude.{if◌then◌else◌}
 use mathlib.Core.Path.{◌≡◌, ap, subst}
 use Prim.Native.Nat.{ℕ, zero, suc, ◌+◌, ◌*◌, ◌/◌, ◌%◌, ◌≤◌, ◌<◌}
 use native.Mathlib.Nat.{le_refl, mod-one, mul-le-mul_right}
@@ -7,7 +8,6 @@ use lib.Dec.{ltb, eqb}
 use lib.IntN.{ℤ, pos, negsuc, nat_abs}
 use borrow.Author.Tests.{ltb-true}
 use Rattle.exact.specs.Bounds.{Within}
-use Rattle.exact.specs.Choice.{if◌then◌else◌}
 use Rattle.exact.specs.Parts.{up}
 use Rattle.exact.specs.Ranges.{sum_to}
 use Rattle.exact.proofs.Bounds.{within_le, within_pos, within_add, within_mul}

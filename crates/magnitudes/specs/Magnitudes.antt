@@ -1,6 +1,5 @@
 -- How far from zero an accepted job's numbers can be, so that the arithmetic on them fits 64 signed bits.
-use Rattle.std.specs.Prelude.{ℕ, ◌+◌, ◌*◌, ◌/◌, ltb}
-use Rattle.exact.specs.Choice.{if◌then◌else◌}
+use Rattle.std.specs.Prelude.{ℕ, ◌+◌, ◌*◌, ◌/◌, ltb, if◌then◌else◌}
 use Rattle.exact.specs.Parts.{up}
 use Rattle.model.specs.Line.{Kind, HN, HO, axle}
 

@@ -1,4 +1,5 @@
 -- What an accepted job is, decoded.
+use Rattle.std.specs.Prelude.{if◌then◌else◌}
 use mathlib.Core.Path.{◌≡◌, refl, ◌∙◌, ap}
 use mathlib.Core.Option.{none}
 use mathlib.Core.List.{List}
@@ -6,7 +7,6 @@ use Prim.Native.Nat.{ℕ, ◌<◌}
 use native.Mathlib.Omega.{arith}
 use lib.Dec.{ltb}
 use borrow.Author.Tests.{lt-ltb}
-use Rattle.exact.specs.Choice.{if◌then◌else◌}
 use Rattle.model.specs.Format.{profile_of, header_of}
 use Rattle.model.specs.Job.{rural}
 use Rattle.model.specs.Decode.{decode}

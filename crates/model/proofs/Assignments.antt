@@ -1,4 +1,5 @@
 -- Factors of additional lanes: on few lanes by computation, an assignment by its levels, and that none beats overload's best.
+use Rattle.std.specs.Prelude.{if◌then◌else◌}
 use mathlib.Core.Path.{◌≡◌, refl, sym, ◌∙◌, ap, ap₂, subst}
 use mathlib.Core.Bool.{Bool, true, false, not, ◌&&◌}
 use mathlib.Core.List.{List, [], ◌∷◌, map}
@@ -9,7 +10,7 @@ use lib.IntN.{ℤ, pos, negsuc, ◌+ℤ◌, ◌*ℤ◌}
 use lib.ListN.{get_or}
 use lib.Dec.{ltb, eqb}
 use borrow.Author.Tests.{ltb-true, ltb-false, lt-ltb, le-ltb, eqb-true, eqb-false, eq-eqb, ne_eqb}
-use Rattle.exact.specs.Choice.{if◌then◌else◌, minℤ, maxℤ}
+use Rattle.exact.specs.Choice.{minℤ, maxℤ}
 use Rattle.exact.specs.Questions.{NoBetter, extreme_over}
 use Rattle.exact.specs.Ranges.{count_to, list_of}
 use Rattle.exact.specs.declared.Question.{Question}

@@ -1,4 +1,5 @@
 -- The other half of demand 3: when what is reported keeps the rules and gives its value exactly.
+use Rattle.std.specs.Prelude.{if◌then◌else◌}
 use mathlib.Core.Path.{◌≡◌, refl, sym, ◌∙◌, ap, ap₂, subst}
 use mathlib.Core.Bool.{Bool, true, false, false≢true}
 use mathlib.Core.List.{List, ◌++◌}
@@ -9,7 +10,6 @@ use native.Mathlib.Omega.{arith}
 use lib.IntN.{ℤ, pos, nat_abs, ◌+ℤ◌, ◌*ℤ◌}
 use lib.Dec.{ltb}
 use lib.ListN.{get_or, get_or-append}
-use Rattle.exact.specs.Choice.{if◌then◌else◌}
 use Rattle.exact.specs.Questions.{rounded}
 use Rattle.exact.specs.Ranges.{count_to}
 use Rattle.exact.specs.declared.Question.{Question}

@@ -1,4 +1,5 @@
 -- A span's dynamic factor is its curve rounded up; it never rises as the span grows, and is from 1000 to 1300 thousandths. Kinds 1 to 3 are as document 01 has them.
+use Rattle.std.specs.Prelude.{if◌then◌else◌}
 use mathlib.Core.Path.{◌≡◌, refl, ◌∙◌, ap}
 use mathlib.Core.Bool.{Bool, true, false}
 use mathlib.Core.Logic.{◌↔◌}
@@ -9,7 +10,7 @@ use native.Mathlib.Omega.{arith}
 use lib.IntN.{ℤ, pos}
 use lib.Dec.{eqb, leb}
 use borrow.Author.Tests.{le-leb, lt-leb, leb-true, leb-false, eqb-false, ne_eqb}
-use Rattle.exact.specs.Choice.{if◌then◌else◌, between}
+use Rattle.exact.specs.Choice.{between}
 use Rattle.exact.specs.Parts.{up}
 use Rattle.exact.specs.Rounding.{floor_div, ceil_div}
 use Rattle.exact.specs.declared.Question.{Question}

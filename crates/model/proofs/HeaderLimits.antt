@@ -1,4 +1,5 @@
 -- Refusals 2 and 11: a job without them has each header word within its limits, and a rural bridge its width.
+use Rattle.std.specs.Prelude.{if◌then◌else◌}
 use mathlib.Core.Path.{◌≡◌, refl, ◌∙◌, ap, subst}
 use mathlib.Core.Logic.{inl, inr}
 use mathlib.Core.Bool.{true, false, and-eq-true_iff}
@@ -12,7 +13,7 @@ use lib.Dec.{eqb}
 use lib.ListN.{length, get_or}
 use native.Mathlib.Nat.{mul-zero}
 use lib.Signed.{◌≤ℤ◌, le_z}
-use Rattle.exact.specs.Choice.{if◌then◌else◌, between}
+use Rattle.exact.specs.Choice.{between}
 use Rattle.exact.specs.Parts.{up}
 use Rattle.exact.specs.declared.Question.{Question}
 use Rattle.exact.specs.declared.Question.TheVariants.{Least}

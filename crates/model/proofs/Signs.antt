@@ -1,4 +1,5 @@
 -- 0 does not beat a best value, for no load gives 0: no greatest is below 0 and no least above.
+use Rattle.std.specs.Prelude.{if◌then◌else◌}
 use mathlib.Core.Path.{◌≡◌, refl, ◌∙◌, ap, ap₂, subst}
 use mathlib.Core.Logic.{inl, inr}
 use mathlib.Core.Bool.{Bool, true, false}
@@ -12,7 +13,6 @@ use lib.Dec.{eqb}
 use lib.IntN.{ℤ, pos, ◌+ℤ◌, ◌*ℤ◌}
 use lib.Signed.{◌≤ℤ◌, lt_z}
 use borrow.Author.Tests.{le-ltb}
-use Rattle.exact.specs.Choice.{if◌then◌else◌}
 use Rattle.exact.specs.Questions.{better, NoBetter, extreme, rounded}
 use Rattle.exact.specs.Rounding.{floor_div, ceil_div}
 use Rattle.exact.specs.declared.Question.{Question}

@@ -1,4 +1,5 @@
 -- Refusals 6, 7 and 8: a job without them has effects, rows and records within their limits, and chains that neither come back nor name an effect twice.
+use Rattle.std.specs.Prelude.{if◌then◌else◌}
 use mathlib.Core.Path.{◌≡◌, sym, ◌∙◌, ap}
 use mathlib.Core.Bool.{true, false, not, ◌||◌, false≢true}
 use mathlib.Core.Option.{none}
@@ -9,7 +10,7 @@ use lib.IntN.{ℤ, pos}
 use lib.ListN.{length, get_or}
 use borrow.Author.Tests.{not-true}
 use Rattle.exact.specs.Bounds.{Within}
-use Rattle.exact.specs.Choice.{if◌then◌else◌, between}
+use Rattle.exact.specs.Choice.{between}
 use Rattle.exact.specs.Parts.{up}
 use Rattle.exact.proofs.Bridge.{by_test}
 use Rattle.exact.proofs.Bounds.{within_le, within_pos, within_mul}

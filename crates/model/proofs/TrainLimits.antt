@@ -1,4 +1,5 @@
 -- What a call for a train that is not refused gives: its arguments within their limits, a line without a fault, and axles within their limits, none past the last.
+use Rattle.std.specs.Prelude.{if◌then◌else◌}
 use mathlib.Core.Path.{◌≡◌, refl}
 use mathlib.Core.Bool.{Bool, true, false, ◌&&◌, and-eq-true_iff}
 use mathlib.Core.Option.{Option, none, some, some-ne-none, some-injective, none-ne-some}
@@ -12,7 +13,7 @@ use lib.IntN.{pos, ◌*ℤ◌}
 use lib.Signed.{le_z}
 use lib.ListN.{length}
 use borrow.Author.Tests.{leb-true, eqb-true, le-leb, lt-leb}
-use Rattle.exact.specs.Choice.{if◌then◌else◌, between}
+use Rattle.exact.specs.Choice.{between}
 use Rattle.exact.proofs.Bridge.{by_test}
 use Rattle.words.specs.Fields.{admits, first_answer, misfit}
 use Rattle.words.proofs.Fits.{answer_each, answer_one}

@@ -1,4 +1,5 @@
 -- No stand of a train on k-ths of a piece beats the best at the stations, in either mode. Without its relieving axles a train counts all axles on the line's kept ordinates.
+use Rattle.std.specs.Prelude.{if◌then◌else◌}
 use mathlib.Core.Path.{◌≡◌, refl, sym, ◌∙◌, ap, ap₂, subst}
 use mathlib.Core.Logic.{◌⊎◌, inl, inr}
 use mathlib.Core.List.{List}
@@ -9,7 +10,7 @@ use lib.IntN.{ℤ, pos, negsuc, ◌+ℤ◌, ◌-ℤ◌, ◌*ℤ◌}
 use lib.ListN.{length}
 use lib.Dec.{ltb}
 use borrow.Author.Tests.{ltb-true}
-use Rattle.exact.specs.Choice.{if◌then◌else◌, minℤ, maxℤ}
+use Rattle.exact.specs.Choice.{minℤ, maxℤ}
 use Rattle.exact.specs.Questions.{better, NoBetter}
 use Rattle.exact.specs.declared.Question.{Question}
 use Rattle.exact.specs.declared.Question.TheVariants.{Greatest, Least}

@@ -1,4 +1,5 @@
 -- Demand 3 for the traffic values: no arrangement of the live kind, for any k, beats the definition's value.
+use Rattle.std.specs.Prelude.{if◌then◌else◌}
 use mathlib.Core.Path.{◌≡◌, refl, sym, ◌∙◌, ap, ap₂, subst}
 use mathlib.Core.Bool.{Bool, true, false, false≢true}
 use mathlib.Core.Option.{none}
@@ -9,7 +10,6 @@ use native.Mathlib.Omega.{arith}
 use lib.IntN.{ℤ, pos, ◌+ℤ◌, ◌*ℤ◌}
 use borrow.Author.Tests.{ltb-false}
 use lib.Pow.{le_ones}
-use Rattle.exact.specs.Choice.{if◌then◌else◌}
 use Rattle.exact.specs.Questions.{NoBetter, extreme}
 use Rattle.exact.specs.Ranges.{sum_to}
 use Rattle.exact.specs.declared.Question.{Question}

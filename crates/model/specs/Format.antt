@@ -1,8 +1,8 @@
 -- "The job's words" as one table: for an edition, each part of a job with the number of its items and the limits of their words.
-use Rattle.std.specs.Prelude.{ℕ, ◌+◌, ◌-◌, ◌*◌, ◌/◌}
+use Rattle.std.specs.Prelude.{ℕ, ◌+◌, ◌-◌, ◌*◌, ◌/◌, if◌then◌else◌}
 use mathlib.Core.{Bool.Bool, List.List, List.[], List.◌∷◌, Option.Option, Option.none}
 use lib.{IntN.ℤ, IntN.pos, IntN.◌*ℤ◌, Signed.le_z, ListN.length, ListN.take, ListN.drop, Dec.ltb, Dec.eqb}
-use Rattle.exact.specs.Choice.{if◌then◌else◌, between, or_else}
+use Rattle.exact.specs.Choice.{between, or_else}
 use Rattle.words.specs.{Words.word_at, Words.count_at, Fields.Field, Fields.Layout, Fields.free, Fields.range, Fields.within, Fields.wide_within, Fields.one_of, Fields.given, Fields.numbered, Fields.both, Fields.◌of◌, Fields.words_in, Fields.moved, Fields.misfit}
 use Rattle.model.specs.Job.{Profile, highway, rural}
 use Rattle.model.specs.declared.{Edition.Edition, Edition.TheVariants.First, Edition.TheVariants.Second, Edition.TheVariants.Third, Edition.TheVariants.Fourth, Header.Header, Part.Part, Part.TheVariants.Head, Part.TheVariants.Line, Part.TheVariants.Transverse, Part.TheVariants.SecondTransverse, Part.TheVariants.Effects, Part.TheVariants.Rows, Part.TheVariants.Records}

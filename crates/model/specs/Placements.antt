@@ -1,7 +1,7 @@
 -- A placement by its lanes' entries: what each gives, and their sum. No promise cites it: the contracts of lanes and the proofs do.
 use mathlib.Core.{Path.◌≡◌, Bool.Bool, Bool.true, Bool.false}
-use Rattle.std.specs.Prelude.{ℕ, ◌≤◌, ℤ, pos, ◌*ℤ◌}
-use Rattle.exact.specs.{Choice.if◌then◌else◌, Ranges.count_to, declared.Question.Question}
+use Rattle.std.specs.Prelude.{ℕ, ◌≤◌, ℤ, pos, ◌*ℤ◌, if◌then◌else◌}
+use Rattle.exact.specs.{Ranges.count_to, declared.Question.Question}
 use Rattle.model.specs.Job.{Job, Live}
 use Rattle.model.specs.Line.{Kind, HN, HO, line_effect}
 use Rattle.model.specs.Lanes.{lanes, unit, in_units, lowest_in, highest_in, ordinate_in}

@@ -1,7 +1,6 @@
 -- Rural bridges (edition 4): the load combinations of Appendix D as its tables print them, and the rows that they are.
-use Rattle.std.specs.Prelude.{ℕ, zero, suc, ◌+◌, ◌-◌, ◌*◌, ◌/◌, List, [], ◌∷◌, ◌++◌}
+use Rattle.std.specs.Prelude.{ℕ, zero, suc, ◌+◌, ◌-◌, ◌*◌, ◌/◌, List, [], ◌∷◌, ◌++◌, if◌then◌else◌}
 use lib.{ListN.get_or, ListN.length, Dec.eqb, Dec.leb}
-use Rattle.exact.specs.Choice.{if◌then◌else◌}
 use Rattle.model.specs.Job.{Term, service, ultimate, no_traffic, normal, Row}
 
 -- a combination of loads: an effect by its number in the job (the traffic, LLxI, has 0), a sum, or so many hundredths of a combination
@@ -107,7 +106,7 @@ thousandths = multiplied 1 1
 abbrev pub terms_by : (factor : ℕ → ℕ) → (e n : ℕ) → List Term
 terms_by factor e zero = []
 terms_by factor e (suc n) =
-    if eqb (factor e) 0 then terms_by factor (suc e) n else record { effect = e; factor = factor e } ∷ terms_by factor (suc e) n
+    if eqb (factor e) 0 then terms_by factor (suc e) n else (record { effect = e; factor = factor e } ∷ terms_by factor (suc e) n)
 
 -- service groups first, then ultimate ones
 abbrev pub groups : (k : ℕ) → List Combination

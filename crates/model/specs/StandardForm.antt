@@ -1,8 +1,8 @@
 -- "One way to write a job" (02): a job's standard form, and when two jobs say the same. In the form records are numbered in row order, rising by effect within a row, zero factors dropped, no shared tails and no other records.
-use Rattle.std.specs.Prelude.{ℕ, zero, suc, ◌+◌, ◌*◌, ◌≤◌, ◌<◌}
+use Rattle.std.specs.Prelude.{ℕ, zero, suc, ◌+◌, ◌*◌, ◌≤◌, ◌<◌, if◌then◌else◌}
 use mathlib.Core.{Path.◌≡◌, Option.Option, List.List, List.[], List.◌∷◌, List.◌++◌}
 use lib.{ListN.length, ListN.take, ListN.drop, Dec.leb, Dec.eqb}
-use Rattle.exact.specs.Choice.{if◌then◌else◌, or_else}
+use Rattle.exact.specs.Choice.{or_else}
 use Rattle.words.specs.Words.{byte_at, word_at}
 use Rattle.buffer.specs.Stored.{little_endian}
 use Rattle.model.specs.Job.{Term, Job}
@@ -52,7 +52,7 @@ abbrev pub rising : (factor : ℕ → ℕ) → (e n : ℕ) → List Term
 rising factor e zero = []
 rising factor e (suc n) =
     let rest = rising factor (suc e) n in
-    if eqb (factor e) 0 then rest else record { effect = e; factor = factor e } ∷ rest
+    if eqb (factor e) 0 then rest else (record { effect = e; factor = factor e } ∷ rest)
 
 -- row r's terms
 unfoldable pub terms_of : List ℕ → ℕ → List Term

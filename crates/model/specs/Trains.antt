@@ -1,8 +1,8 @@
 -- "Rating trucks" of document 02: a train of axles on the line alone. Loads are in kN, distances in dm, effects in kN·U.
-use Rattle.std.specs.Prelude.{ℕ, zero, suc, ◌+◌, ◌-◌, ◌*◌, ◌/◌, ◌%◌, ◌<◌}
+use Rattle.std.specs.Prelude.{ℕ, zero, suc, ◌+◌, ◌-◌, ◌*◌, ◌/◌, ◌%◌, ◌<◌, if◌then◌else◌}
 use mathlib.Core.{Path.◌≡◌, Bool.Bool, Bool.◌&&◌, Option.Option, Option.some, List.List, List.[], List.◌∷◌}
 use lib.{IntN.ℤ, IntN.pos, IntN.neg_ℤ, IntN.◌+ℤ◌, IntN.◌-ℤ◌, IntN.◌*ℤ◌, Signed.◌≤ℤ◌, ListN.length, ListN.get_or, Dec.leb, Dec.eqb}
-use Rattle.exact.specs.{Choice.if◌then◌else◌, Ranges.sum_to, Questions.better, Questions.extreme, Questions.NoBetter, declared.Question.Question, declared.Question.TheVariants.Greatest, declared.Question.TheVariants.Least}
+use Rattle.exact.specs.{Ranges.sum_to, Questions.better, Questions.extreme, Questions.NoBetter, declared.Question.Question, declared.Question.TheVariants.Greatest, declared.Question.TheVariants.Least}
 use Rattle.words.specs.Fields.{admits, first_answer, misfit}
 use Rattle.model.specs.Job.{InfluenceLine}
 use Rattle.model.specs.Format.{bytes, piece_length, piece_count, line_layout, ordinate_limit}

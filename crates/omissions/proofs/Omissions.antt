@@ -1,4 +1,5 @@
 -- A chain's best value term by term, and what it leaves out as a number's bits.
+use Rattle.std.specs.Prelude.{if◌then◌else◌}
 use mathlib.Core.Path.{◌≡◌, refl, sym, ◌∙◌, ap, ap₂, subst}
 use mathlib.Core.Bool.{Bool, true, false, ◌&&◌, ◌||◌, true≢false, false≢true, or-true, and-eq-true_iff}
 use mathlib.Core.List.{List, [], ◌∷◌}
@@ -15,7 +16,6 @@ use Rattle.model.specs.Format.{bytes}
 use Rattle.model.specs.declared.Part.TheVariants.{Records}
 use borrow.Author.Tests.{eqb-true, eq-eqb, ne_eqb}
 use Rattle.exact.specs.Bounds.{Within}
-use Rattle.exact.specs.Choice.{if◌then◌else◌}
 use Rattle.exact.specs.Questions.{better, beats}
 use Rattle.exact.specs.declared.Question.{Question}
 use Rattle.exact.proofs.Bounds.{within_add, within_le, within_pos}

@@ -1,10 +1,10 @@
 // Refusals 4 and 5 on a line's own bytes: passes that only tell whether there is a fault, and the search for the place.
 #![tactic(auto)]
 
-ghost use Rattle.std.specs.Prelude.{◌≡◌, true, false, ◌*◌, ◌≤◌, pos, neg_ℤ, length};
+ghost use Rattle.std.specs.Prelude.{◌≡◌, true, false, ◌*◌, ◌≤◌, pos, neg_ℤ, length, if◌then◌else◌};
 ghost use Rattle.std.specs.Int.Signed.{lt_z};
 ghost use Rattle.exact.specs.Bounds.{Within};
-ghost use Rattle.exact.specs.Choice.{if◌then◌else◌, between};
+ghost use Rattle.exact.specs.Choice.{between};
 ghost use Rattle.words.specs.Fields.{misfit};
 ghost use Rattle.model.specs.Format.{format, bytes};
 ghost use Rattle.model.specs.declared.Part.TheVariants.{Line};

@@ -1,4 +1,5 @@
 -- The pair's places: what it counts at each, by the line's words, and the ranks of what it counts.
+use Rattle.std.specs.Prelude.{if◌then◌else◌}
 use mathlib.Core.Path.{◌≡◌, refl, sym, ◌∙◌, ap, ap₂, subst}
 use mathlib.Core.Bool.{Bool}
 use mathlib.Core.List.{List}
@@ -11,7 +12,6 @@ use lib.IntN.{ℤ, pos, negsuc, neg_ℤ-neg_ℤ, ◌+ℤ◌, ◌*ℤ◌}
 use lib.Signed.{◌≤ℤ◌}
 use borrow.Author.Tests.{eq-eqb, ne_eqb, lt-ltb}
 use Rattle.exact.specs.Bounds.{Within}
-use Rattle.exact.specs.Choice.{if◌then◌else◌}
 use Rattle.exact.specs.Parts.{up}
 use Rattle.exact.specs.Questions.{better, NoBetter}
 use Rattle.exact.specs.declared.Question.{Question}

@@ -5,8 +5,7 @@
 --   ultimate likewise
 --   refused NUMBER at PLACE
 -- Numbers are decimal, with a minus where below 0 and no zeros in front.
-use Rattle.std.specs.Prelude.{ℕ, List, ◌++◌, eqb}
-use Rattle.exact.specs.Choice.{if◌then◌else◌}
+use Rattle.std.specs.Prelude.{ℕ, List, ◌++◌, eqb, if◌then◌else◌}
 use Rattle.decimal.specs.Decimal.{ascii, decimal, signed}
 use Rattle.model.specs.declared.Traffic.{Traffic}
 use Rattle.model.specs.declared.Governing.{Governing}

@@ -1,4 +1,5 @@
 -- The built-in rows by the lines of the table of factors.
+use Rattle.std.specs.Prelude.{if◌then◌else◌}
 use mathlib.Core.Path.{◌≡◌, refl, sym, ◌∙◌, ap, subst}
 use mathlib.Core.Bool.{Bool}
 use Prim.Native.Nat.{ℕ, suc, ◌-◌, ◌≤◌}
@@ -6,7 +7,6 @@ use native.Mathlib.Omega.{arith}
 use lib.Dec.{eqb, ltb}
 use lib.IntN.{pos, ◌*ℤ◌}
 use borrow.Author.Tests.{eqb-true, ne_eqb, lt-ltb}
-use Rattle.exact.specs.Choice.{if◌then◌else◌}
 use Rattle.exact.proofs.Bridge.{by_test}
 use Rattle.exact.proofs.Ring.{◌⊗◌, lit, ◌≐◌, solve}
 use Rattle.model.specs.Job.{no_traffic, normal}

@@ -1,7 +1,6 @@
 // The rows' best values, and the governing row of each limit state for each question.
-ghost use Rattle.std.specs.Prelude.{◌≡◌, List, ℕ, ◌+◌, ◌-◌, ◌*◌, ◌≤◌, ◌<◌, pos, ◌*ℤ◌, length};
+ghost use Rattle.std.specs.Prelude.{◌≡◌, List, ℕ, ◌+◌, ◌-◌, ◌*◌, ◌≤◌, ◌<◌, pos, ◌*ℤ◌, length, if◌then◌else◌};
 ghost use Rattle.exact.specs.Bounds.{Within};
-ghost use Rattle.exact.specs.Choice.{if◌then◌else◌};
 ghost use Rattle.exact.specs.declared.Question.{Question};
 ghost use Rattle.model.specs.Format.{profile_of, kilonewtons, effect_unit, size, bytes, effect_bytes};
 ghost use Rattle.model.specs.declared.Part.TheVariants.{Rows};

@@ -1,4 +1,5 @@
 -- The sizes of the parts of a header, and the bytes of a part.
+use Rattle.std.specs.Prelude.{if◌then◌else◌}
 use mathlib.Core.Path.{◌≡◌, refl, sym, ◌∙◌, ap, ap₂, subst}
 use mathlib.Core.Option.{none}
 use mathlib.Core.List.{List}
@@ -8,7 +9,6 @@ use native.Mathlib.Omega.{arith}
 use borrow.Author.Tests.{eqb-true}
 use lib.Dec.{eqb}
 use lib.ListN.{take, drop, length}
-use Rattle.exact.specs.Choice.{if◌then◌else◌}
 use Rattle.exact.proofs.Bridge.{by_test}
 use Rattle.model.specs.Format.{profile_of, effect_unit, header_of, effect_fields, spaces, across_layout, words, start, words_due, section, section_of}
 use Rattle.model.specs.declared.Header.{Header}

@@ -3,8 +3,7 @@
 
 pub mod header;
 
-ghost use Rattle.std.specs.Prelude.{◌≡◌, ◌≤◌, ◌<◌, eqb, length};
-ghost use Rattle.exact.specs.Choice.{if◌then◌else◌};
+ghost use Rattle.std.specs.Prelude.{◌≡◌, ◌≤◌, ◌<◌, eqb, length, if◌then◌else◌};
 ghost use Rattle.model.specs.Format.{effect_unit, spaces, format, effect_size, words, start, words_due, section_of};
 ghost use Rattle.sections.specs.Sized.{Counted, Sized};
 

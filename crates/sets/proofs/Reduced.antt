@@ -1,4 +1,5 @@
 -- How far from zero the sums of n lanes are, at their r or at their factors: past five lanes each lane's most is half.
+use Rattle.std.specs.Prelude.{if◌then◌else◌}
 use Prim.Native.Nat.{ℕ, ◌*◌, ◌/◌, ◌≤◌, ◌<◌}
 use native.Mathlib.Nat.{le_refl, mul_assoc, mul_left_comm, mul-le-mul_left, le-div_iff_mul-le}
 use native.Mathlib.Omega.{arith}
@@ -6,7 +7,6 @@ use lib.IntN.{ℤ, ◌*ℤ◌}
 use lib.Dec.{ltb}
 use borrow.Author.Tests.{ltb-true}
 use Rattle.exact.specs.Bounds.{Within}
-use Rattle.exact.specs.Choice.{if◌then◌else◌}
 use Rattle.exact.specs.declared.Question.{Question}
 use Rattle.exact.proofs.Bounds.{within_le, within_pos, within_mul}
 use Rattle.exact.proofs.Bridge.{by_test}

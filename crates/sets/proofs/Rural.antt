@@ -1,4 +1,5 @@
 -- The loadings of a rural bridge: 17 twentieths of its one lane under HN, and no lane.
+use Rattle.std.specs.Prelude.{if◌then◌else◌}
 use mathlib.Core.Path.{◌≡◌, refl, sym, ◌∙◌, ap, subst}
 use mathlib.Core.Logic.{inr}
 use mathlib.Core.Bool.{Bool, false}
@@ -11,7 +12,6 @@ use lib.ListN.{replicate}
 use lib.Pow.{pow_pos}
 use borrow.Author.Tests.{ne_eqb}
 use Rattle.exact.specs.Bounds.{Within}
-use Rattle.exact.specs.Choice.{if◌then◌else◌}
 use Rattle.exact.specs.Questions.{NoBetter, extreme}
 use Rattle.exact.specs.declared.Question.{Question}
 use Rattle.exact.proofs.Bounds.{within_pos}

@@ -1,10 +1,9 @@
 // Sets of lanes, their r and additional lanes' factors, and the best of them by the lanes' ranks: no set or assignment is searched.
 #![tactic(auto)]
 
-ghost use Rattle.std.specs.Prelude.{◌≡◌, ℕ, ◌+◌, ◌-◌, ◌*◌, ◌≤◌, ◌<◌, ◌^◌, ltb, ℤ, pos, ◌+ℤ◌};
+ghost use Rattle.std.specs.Prelude.{◌≡◌, ℕ, ◌+◌, ◌-◌, ◌*◌, ◌≤◌, ◌<◌, ◌^◌, ltb, ℤ, pos, ◌+ℤ◌, if◌then◌else◌};
 ghost use Rattle.std.specs.Int.Count.{ones};
 ghost use Rattle.exact.specs.Bounds.{Within};
-ghost use Rattle.exact.specs.Choice.{if◌then◌else◌};
 ghost use Rattle.exact.specs.Questions.{beats as beatsFor, NoBetter};
 ghost use Rattle.exact.specs.declared.Question.{Question};
 ghost use Rattle.model.specs.Job.{highway, rural, normal, overload};

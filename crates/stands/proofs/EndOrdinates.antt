@@ -1,4 +1,5 @@
 -- The ordinates at the ends of a piece, on the line and off it.
+use Rattle.std.specs.Prelude.{if◌then◌else◌}
 use mathlib.Core.Path.{◌≡◌, refl, sym, ◌∙◌, ap}
 use mathlib.Core.Bool.{◌&&◌}
 use mathlib.Core.List.{List}
@@ -8,7 +9,6 @@ use lib.Dec.{leb, ltb}
 use lib.IntN.{ℤ, pos, ◌+ℤ◌, ◌*ℤ◌}
 use borrow.Author.Tests.{lt-ltb, le-ltb, le-leb, lt-leb, ltb-true}
 use Rattle.exact.specs.Bounds.{Within}
-use Rattle.exact.specs.Choice.{if◌then◌else◌}
 use Rattle.exact.specs.declared.Question.{Question}
 use Rattle.exact.proofs.Bounds.{within_le, within_pos, within_add, within_mul}
 use Rattle.exact.proofs.Bridge.{by_test}

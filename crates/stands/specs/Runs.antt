@@ -1,9 +1,9 @@
 -- What the search has in hand. A run has the leftmost axle on one piece: run m on piece m less the train's length in pieces, from the line's left end.
 -- Places count stations and sides: place p is station p / 2 less the train's length, from the left where p is even. A run's left end is place 2 m + 1, its right end 2 m + 2.
-use Rattle.std.specs.Prelude.{ℕ, ◌+◌, ◌-◌, ◌*◌, ◌/◌, ◌≤◌, ◌<◌, ◌≡◌, ◌&&◌, List}
+use Rattle.std.specs.Prelude.{ℕ, ◌+◌, ◌-◌, ◌*◌, ◌/◌, ◌≤◌, ◌<◌, ◌≡◌, ◌&&◌, List, if◌then◌else◌}
 use lib.{IntN.ℤ, IntN.pos, IntN.◌*ℤ◌, ListN.length, Dec.leb, Dec.ltb}
 use Rattle.exact.specs.Bounds.{Within}
-use Rattle.exact.specs.{Choice.if◌then◌else◌, Ranges.sum_to, Questions.extreme, declared.Question.Question, declared.Question.TheVariants.Greatest, declared.Question.TheVariants.Least}
+use Rattle.exact.specs.{Ranges.sum_to, Questions.extreme, declared.Question.Question, declared.Question.TheVariants.Greatest, declared.Question.TheVariants.Least}
 use Rattle.words.specs.Words.{word_at}
 use Rattle.model.specs.{Job.InfluenceLine, Format.size, Trains.axle_at, Trains.train_length, Trains.distance, Trains.counted, Trains.train_effect, Trains.train_station, declared.Part.TheVariants.Line, declared.Axle.Axle, declared.Way.Way, declared.Mode.Mode}
 use Rattle.magnitudes.specs.Magnitudes.{train_most}

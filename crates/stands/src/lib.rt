@@ -2,9 +2,8 @@
 // Places count stations and sides: place p is station p / 2 less the train's length, from the left where p is even. A run's left end is place 2 m + 1, its right end 2 m + 2.
 #![tactic(auto)]
 
-ghost use Rattle.std.specs.Prelude.{◌≡◌, List, ℕ, ◌+◌, ◌-◌, ◌*◌, ◌/◌, ◌≤◌, ◌<◌, ℤ, pos, ◌+ℤ◌, ◌-ℤ◌, ◌*ℤ◌, length, take};
+ghost use Rattle.std.specs.Prelude.{◌≡◌, List, ℕ, ◌+◌, ◌-◌, ◌*◌, ◌/◌, ◌≤◌, ◌<◌, ℤ, pos, ◌+ℤ◌, ◌-ℤ◌, ◌*ℤ◌, length, take, if◌then◌else◌};
 ghost use Rattle.exact.specs.Bounds.{Within};
-ghost use Rattle.exact.specs.Choice.{if◌then◌else◌};
 ghost use Rattle.exact.specs.Questions.{better, beats};
 ghost use Rattle.exact.specs.declared.Question.{Question};
 ghost use Rattle.exact.specs.declared.Question.TheVariants.{Greatest, Least};

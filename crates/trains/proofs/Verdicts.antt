@@ -1,4 +1,5 @@
 -- The verdict on a call as its result: made of the tests' refusals, and told by a result.
+use Rattle.std.specs.Prelude.{if◌then◌else◌}
 use borrow.Author.Tests.{ne_eqb}
 use mathlib.Core.Path.{◌≡◌, refl, ◌∙◌, ap, ap₂}
 use mathlib.Core.Bool.{Bool, true, false}
@@ -8,7 +9,6 @@ use Prim.Native.Nat.{ℕ, ◌≤◌}
 use native.Mathlib.Omega.{arith}
 use lib.Dec.{eqb}
 use lib.ListN.{length}
-use Rattle.exact.specs.Choice.{if◌then◌else◌}
 use Rattle.words.specs.Fields.{misfit}
 use Rattle.model.specs.Format.{line_layout, ordinate_limit}
 use Rattle.model.specs.Refusals.{Refusal, refuse, signs, packed}

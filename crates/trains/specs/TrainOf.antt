@@ -1,6 +1,5 @@
 -- The train that was gathered.
-use Rattle.std.specs.Prelude.{List, leb, take, replicate}
-use Rattle.exact.specs.Choice.{if◌then◌else◌}
+use Rattle.std.specs.Prelude.{List, leb, take, replicate, if◌then◌else◌}
 use Rattle.model.specs.declared.Axle.{Axle}
 use Rattle.axles.specs.declared.Gathered.{Gathered}
 

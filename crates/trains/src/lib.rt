@@ -1,9 +1,8 @@
 // The call for a train: its verdict and its rating.
 #![tactic(auto)]
 
-ghost use Rattle.std.specs.Prelude.{◌≡◌, ◌&&◌, ℕ, suc, ◌≤◌, ◌<◌, eqb, pos};
+ghost use Rattle.std.specs.Prelude.{◌≡◌, ◌&&◌, ℕ, suc, ◌≤◌, ◌<◌, eqb, pos, if◌then◌else◌};
 ghost use Rattle.std.proofs.Math.Option.{none, some};
-ghost use Rattle.exact.specs.Choice.{if◌then◌else◌};
 ghost use Rattle.words.specs.Fields.{admits, first_answer};
 ghost use Rattle.model.specs.Format.{piece_length, piece_count};
 ghost use Rattle.model.specs.Refusals.{unless, packed, refuse};

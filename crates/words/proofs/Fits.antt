@@ -1,4 +1,5 @@
 -- What a section without a fault gives, and where a fault can be: once, for any layout.
+use Rattle.std.specs.Prelude.{if◌then◌else◌}
 use mathlib.Core.Path.{◌≡◌, refl, ◌∙◌}
 use mathlib.Core.Bool.{true}
 use mathlib.Core.Option.{Option, none, some, some-injective, none-ne-some, some-ne-none}
@@ -8,7 +9,7 @@ use native.Mathlib.Nat.{mul-le-mul, mul-suc, le_refl}
 use native.Mathlib.Decide.{dec_le}
 use native.Mathlib.Omega.{arith}
 use lib.ListN.{length, get_or}
-use Rattle.exact.specs.Choice.{if◌then◌else◌, or_else}
+use Rattle.exact.specs.Choice.{or_else}
 use Rattle.exact.proofs.Bridge.{by_test}
 use Rattle.words.specs.Words.{word_at}
 use Rattle.words.specs.Fields.{Item, Field, Layout, free, words_in, moved, misfit_from, item_from, item_misfit, first_answer, misfit}

@@ -1,4 +1,5 @@
 -- Two words as one number: it fits 64 signed bits, and its low half's 32 bits are read as the definition has them.
+use Rattle.std.specs.Prelude.{if◌then◌else◌}
 use mathlib.Core.Path.{◌≡◌, refl}
 use mathlib.Core.Bool.{true, false}
 use Prim.Native.Nat.{ℕ, ◌^◌, ◌<◌}
@@ -9,7 +10,6 @@ use lib.IntN.{ℤ, pos, ◌+ℤ◌, ◌-ℤ◌, ◌*ℤ◌}
 use lib.Signed.{lt_z}
 use mir.Syntax.{w32, w64}
 use mir.Val.{SFits}
-use Rattle.exact.specs.Choice.{if◌then◌else◌}
 use Rattle.exact.proofs.Bounds.{sfits_in, sfits_by}
 use Rattle.exact.proofs.Bridge.{by_test, added, subbed, times_up, ℕ→≡}
 use Rattle.exact.proofs.Tests.{lt_is, lt_not}

@@ -1,4 +1,5 @@
 -- A section has no fault exactly when every field of every item admits its word: once, for any layout.
+use Rattle.std.specs.Prelude.{if◌then◌else◌}
 use mathlib.Core.Path.{◌≡◌, refl, ◌∙◌, ap}
 use mathlib.Core.Bool.{Bool, true}
 use mathlib.Core.Option.{Option, none, some, some-ne-none}
@@ -6,7 +7,7 @@ use mathlib.Core.List.{List, [], ◌∷◌}
 use Prim.Native.Nat.{ℕ, zero, suc, ◌+◌, ◌*◌, ◌≤◌, ◌<◌}
 use native.Mathlib.Omega.{arith}
 use lib.ListN.{length}
-use Rattle.exact.specs.Choice.{if◌then◌else◌, or_else}
+use Rattle.exact.specs.Choice.{or_else}
 use Rattle.exact.proofs.Bridge.{by_test}
 use Rattle.words.specs.Fields.{Item, Field, Layout, moved, misfit_from, item_from, item_misfit, first_answer, misfit}
 use Rattle.words.proofs.Fits.{moved_none, answer_each}

@@ -1,7 +1,7 @@
 -- What the table of a format is made of: a section has items, an item has fields, and a field is a word with limits.
-use Rattle.std.specs.Prelude.{ℕ, zero, suc, ◌+◌, ◌*◌, Bool, true, false, ◌&&◌, ◌||◌, List, [], ◌∷◌, ℤ, pos, neg_ℤ, length}
+use Rattle.std.specs.Prelude.{ℕ, zero, suc, ◌+◌, ◌*◌, Bool, true, false, ◌&&◌, ◌||◌, List, [], ◌∷◌, ℤ, pos, neg_ℤ, length, if◌then◌else◌}
 use Rattle.std.proofs.Math.Option.{Option, none, some}
-use Rattle.exact.specs.Choice.{if◌then◌else◌, between, or_else}
+use Rattle.exact.specs.Choice.{between, or_else}
 use Rattle.words.specs.Words.{word_at, wide}
 
 -- an item: its number in its section, from 0, and its words

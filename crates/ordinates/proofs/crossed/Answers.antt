@@ -1,10 +1,10 @@
+use Rattle.std.specs.Prelude.{if◌then◌else◌}
 use mathlib.Core.Path.{◌≡◌, refl, sym, ◌∙◌, ap, ap₂}
 use mathlib.Core.Bool.{Bool, true, false, ◌&&◌, ◌||◌}
 use Prim.Native.Nat.{ℕ, ◌+◌, ◌*◌, ◌≤◌}
 use native.Mathlib.Omega.{arith}
 use lib.IntN.{ℤ, pos}
 use lib.Signed.{lt_z}
-use Rattle.exact.specs.Choice.{if◌then◌else◌}
 use Rattle.exact.proofs.Held.{any}
 use Rattle.ordinates.proofs.crossed.Goals as goal
 

@@ -1,3 +1,4 @@
+use Rattle.std.specs.Prelude.{if◌then◌else◌}
 use native.Mathlib.Omega.{arith}
 use native.Mathlib.Nat.{lt_of_lt_of_le}
 use mathlib.Core.Path.{◌≡◌, refl, ◌∙◌, ap, subst}
@@ -8,7 +9,6 @@ use lib.Pow.{pow_mono}
 use mir.Syntax.{w64}
 use borrow.Author.Tests.{ltb-false}
 use Rattle.exact.specs.Bounds.{Within}
-use Rattle.exact.specs.Choice.{if◌then◌else◌}
 use Rattle.exact.proofs.Held.{Kept, known, told, retold, nat, times}
 use Rattle.exact.proofs.Bounds.{within_pos, within_mul}
 use Rattle.exact.proofs.Bridge.{by_test}
