@@ -7,7 +7,7 @@ use lib.ListN.{get_or}
 use lib.IntN.{pos}
 use mir.Syntax.{w64}
 use Rattle.exact.specs.Ranges.{list_of}
-use Rattle.exact.proofs.Held.{Held, known, nat, retold, told, times}
+use Rattle.exact.proofs.Held.{Held, known, nat, retold, told, times, times! }
 use Rattle.exact.proofs.Ranges.{get_or_list_of}
 use Rattle.groups.specs.FactorLines.{line_factor}
 use Rattle.groups.proofs.Table.{factor_small}
@@ -20,6 +20,9 @@ factor line factors e h =
     let is : get_or factors 0 0 ≡ line_factor line 0 = ap (λ (xs : List ℕ). get_or xs 0 0) e ∙ get_or_list_of 12 (line_factor line) 0 0 (omega arith) in
     let small : get_or factors 0 0 ≤ 3000 = rw is (factor_small line 0 h (omega arith)) in
     subst (λ (k : ℕ). Held w64 (get_or factors 0 0) 3000 (pos k)) is (nat w64 3000 small (omega arith))
+
+pub overflow_mul-result : goal.overflow_mul-result
+overflow_mul-result c = times! (factor c.args.line _ c.factors-factors.ensures c.requires.0) (known w64 c.requires.1.0 (lit< tt)) (lit< tt)
 
 pub returns : goal.returns
 returns c =
