@@ -54,7 +54,7 @@ sought_for Lowering s = s.lowering
 abbrev pub SensesRight : InfluenceLine → Senses → Type 0
 SensesRight line s = (sense : Sense) → SoughtRight line sense (sought_for sense s)
 
--- a kind's line effect, in 75 N-as-U, on every line of which that is sought; near enough to go on
+-- a kind's line effect, in 75 N·U, on every line of which that is sought; near enough to go on
 pub record EffectRight (kind : Kind) (s : Sought) (r : ℤ) : Type 0 where
   pub is : (line : InfluenceLine) (sense : Sense) → SoughtRight line sense s → r ≡ line_effect line kind sense
   pub near : Within (line_most kind) r

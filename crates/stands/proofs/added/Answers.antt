@@ -26,6 +26,9 @@ overflow_add-result c =
     let effect = times (nat w64 400 c.requires.0 (omega (arith, c.requires.0))) (cast (arg c.ranges.ordinate c.requires.1) w64 (lit< tt)) (lit< tt) in
     plus! (known w64 (c.requires.2 Greatest) (lit< tt)) (share a.mode Greatest a.load a.ordinate effect.is c.counted.type_inv c.counted.ensures) (lit< tt)
 
+pub counted-requires : goal.counted-requires
+counted-requires c = (told (times (nat w64 400 c.requires.0 (omega (arith, c.requires.0))) (cast (arg c.ranges.ordinate c.requires.1) w64 (lit< tt)) (lit< tt))).1
+
 pub counted-requires-2 : goal.counted-requires-2
 counted-requires-2 c = (told (times (nat w64 400 c.requires.0 (omega (arith, c.requires.0))) (cast (arg c.ranges.ordinate c.requires.1) w64 (lit< tt)) (lit< tt))).1
 
