@@ -14,6 +14,7 @@ ghost use Rattle.centres.specs.Candidates.{ordinate_at, better_centre, BestBefor
 use exact::Question;
 
 // n for a carriageway so many cm wide.
+#[tactic(auto, unfolding(model::specs::Lanes::lane_count))]
 fn lane_count(width: usize) -> usize
     requires { (300 ≤ width) × (width ≤ 2079) }
     ensures { (result ≡ lane_count width) × ((1 ≤ result) × (result ≤ 5)) }
