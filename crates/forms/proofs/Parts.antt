@@ -60,12 +60,15 @@ module _ (b : List ℕ) (ok : Listed b) where
   unfolding terms_of
   short i = rising_length (row_factor (decode b) (suc i)) 1 head.effects
 
+  most : record_count b ≤ head.rows * head.effects
+  most = records_most terms head.effects head.rows (λ i h. short i)
+
   -- C is at most R times E
   pub few_records : record_count b ≤ head.rows * head.effects
-  few_records = records_most terms head.effects head.rows (λ i h. short i)
+  few_records = most
 
   pub few_512 : record_count b ≤ 512
-  few_512 = let m : head.rows * head.effects ≤ 32 * 16 = mul-le-mul ok.rows ok.effects in omega (arith, few_records)
+  few_512 = let m : head.rows * head.effects ≤ 32 * 16 = mul-le-mul ok.rows ok.effects in omega (arith, most)
 
   -- ---- lengths
   own : (part : Part) → length (section_of b part) ≡ 4 * words head part
