@@ -1,4 +1,5 @@
 -- What may be left out of a row of the form: what may be left out of the job's row, but no effect whose factor is 0.
+use Rattle.std.specs.Prelude.{if◌then◌else◌}
 use mathlib.Core.Path.{◌≡◌, refl, sym, ◌∙◌, ap, subst}
 use mathlib.Core.Bool.{Bool, true, ◌||◌, false≢true}
 use mathlib.Core.Logic.{◌↔◌}
@@ -8,7 +9,6 @@ use Prim.Native.Nat.{ℕ, zero, suc, ◌+◌, ◌≤◌, ◌<◌}
 use native.Mathlib.Omega.{arith}
 use lib.Dec.{eqb}
 use borrow.Author.Tests.{eqb-true, eqb-false}
-use Rattle.exact.specs.Choice.{if◌then◌else◌}
 use Rattle.exact.proofs.Bridge.{by_test}
 use Rattle.model.specs.Decode.{decode}
 use Rattle.model.specs.Format.{header_of}
@@ -39,7 +39,7 @@ within n (t ∷ rest) fit e h =
 rising_named : (f : ℕ → ℕ) (e n d : ℕ) → names (rising f e n) d ≡ true → ¬ (f d ≡ 0)
 rising_named f e zero d h = absurd (false≢true h)
 rising_named f e (suc n) d h =
-    by_test (eqb (f e) 0) (λ b. names (if b then rising f (suc e) n else record { effect = e; factor = f e } ∷ rising f (suc e) n) d ≡ true → ¬ (f d ≡ 0))
+    by_test (eqb (f e) 0) (λ b. names (if b then rising f (suc e) n else (record { effect = e; factor = f e } ∷ rising f (suc e) n)) d ≡ true → ¬ (f d ≡ 0))
     (λ _ r. rising_named f (suc e) n d r)
     (λ z r.
     by_test (eqb e d) (λ b. (b || names (rising f (suc e) n) d) ≡ true → ¬ (f d ≡ 0))

@@ -1,4 +1,5 @@
 -- Words out of joined bytes, and the word that four bytes of a count spell.
+use Rattle.std.specs.Prelude.{if◌then◌else◌}
 use mathlib.Core.Path.{◌≡◌, refl, sym, ◌∙◌, ap}
 use mathlib.Core.List.{List, [], ◌∷◌, ◌++◌, append_assoc, append-nil}
 use Prim.Native.Nat.{ℕ, zero, suc, ◌+◌, ◌*◌, ◌/◌, ◌%◌, ◌^◌, ◌≤◌, ◌<◌}
@@ -10,7 +11,6 @@ use lib.IntN.{pos, ◌-ℤ◌}
 use lib.ListN.{length, take, drop, length-append, get_or-append, length-take, length-drop}
 use lib.Seq.{get_or-append-add, get_or-take, get_or-drop}
 use borrow.Author.Tests.{lt-ltb}
-use Rattle.exact.specs.Choice.{if◌then◌else◌}
 use Rattle.words.specs.Words.{byte_at, signed32, word_at}
 use Rattle.model.specs.Job.{Term}
 use Rattle.model.specs.Format.{bytes}

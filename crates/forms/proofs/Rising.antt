@@ -1,4 +1,5 @@
 -- The terms of a row of the form: rising by effect, no factor 0, each effect's own factor.
+use Rattle.std.specs.Prelude.{if◌then◌else◌}
 use mathlib.Core.Path.{◌≡◌, refl, sym, ◌∙◌, ap, ap₂}
 use mathlib.Core.Bool.{Bool, false, ◌||◌, true≢false}
 use mathlib.Core.List.{List, [], ◌∷◌}
@@ -8,7 +9,6 @@ use native.Mathlib.Omega.{arith}
 use lib.Dec.{eqb}
 use lib.ListN.{length}
 use borrow.Author.Tests.{eqb-true, eqb-false, eq-eqb, ne_eqb}
-use Rattle.exact.specs.Choice.{if◌then◌else◌}
 use Rattle.exact.proofs.Bridge.{by_test}
 use Rattle.model.specs.Job.{Term}
 use Rattle.model.specs.Rows.{names}
@@ -43,21 +43,21 @@ below : (f : ℕ → ℕ) (e n d : ℕ) → d < e → names (rising f e n) d ≡
 below f e zero d h = refl
 below f e (suc n) d h =
     let less = below f (suc e) n d (omega arith) in
-    by_test (eqb (f e) 0) (λ b. names (if b then rising f (suc e) n else record { effect = e; factor = f e } ∷ rising f (suc e) n) d ≡ false)
+    by_test (eqb (f e) 0) (λ b. names (if b then rising f (suc e) n else (record { effect = e; factor = f e } ∷ rising f (suc e) n)) d ≡ false)
     (λ _. less) (λ _. ap (λ (b : Bool). b || names (rising f (suc e) n) d) (ne_eqb e d (λ z. omega arith)) ∙ less)
 
 pub rising_distinct : (f : ℕ → ℕ) (e n : ℕ) → Distinct (rising f e n)
 rising_distinct f e zero = tt
 rising_distinct f e (suc n) =
     let less = rising_distinct f (suc e) n in
-    by_test (eqb (f e) 0) (λ b. Distinct (if b then rising f (suc e) n else record { effect = e; factor = f e } ∷ rising f (suc e) n))
+    by_test (eqb (f e) 0) (λ b. Distinct (if b then rising f (suc e) n else (record { effect = e; factor = f e } ∷ rising f (suc e) n)))
     (λ _. less) (λ _. (below f (suc e) n e (omega arith), less))
 
 pub rising_each : (P : Term → Type 0) (f : ℕ → ℕ) (e n : ℕ) → ((d : ℕ) → e ≤ d → d < e + n → P (record { effect = d; factor = f d })) → Each P (rising f e n)
 rising_each P f e zero h = tt
 rising_each P f e (suc n) h =
     let less = rising_each P f (suc e) n (λ d l m. h d (omega arith) (omega arith)) in
-    by_test (eqb (f e) 0) (λ b. Each P (if b then rising f (suc e) n else record { effect = e; factor = f e } ∷ rising f (suc e) n))
+    by_test (eqb (f e) 0) (λ b. Each P (if b then rising f (suc e) n else (record { effect = e; factor = f e } ∷ rising f (suc e) n)))
     (λ _. less) (λ _. (h e (omega arith) (omega arith), less))
 
 -- none has factor 0
@@ -65,14 +65,14 @@ pub rising_nonzero : (f : ℕ → ℕ) (e n : ℕ) → Each (λ t. ¬ (t.factor 
 rising_nonzero f e zero = tt
 rising_nonzero f e (suc n) =
     let less = rising_nonzero f (suc e) n in
-    by_test (eqb (f e) 0) (λ b. Each (λ t. ¬ (t.factor ≡ 0)) (if b then rising f (suc e) n else record { effect = e; factor = f e } ∷ rising f (suc e) n))
+    by_test (eqb (f e) 0) (λ b. Each (λ t. ¬ (t.factor ≡ 0)) (if b then rising f (suc e) n else (record { effect = e; factor = f e } ∷ rising f (suc e) n)))
     (λ _. less) (λ z. (eqb-false (f e) 0 z, less))
 
 pub rising_length : (f : ℕ → ℕ) (e n : ℕ) → length (rising f e n) ≤ n
 rising_length f e zero = omega arith
 rising_length f e (suc n) =
     let less = rising_length f (suc e) n in
-    by_test (eqb (f e) 0) (λ b. length (if b then rising f (suc e) n else record { effect = e; factor = f e } ∷ rising f (suc e) n) ≤ suc n)
+    by_test (eqb (f e) 0) (λ b. length (if b then rising f (suc e) n else (record { effect = e; factor = f e } ∷ rising f (suc e) n)) ≤ suc n)
     (λ _. omega arith) (λ _. omega arith)
 
 -- they give each effect its factor
@@ -81,12 +81,12 @@ rising_factor f e zero d l h = absurd (omega arith)
 rising_factor f e (suc n) d l h = elim (dec_le d e) [
   | yes m ↦
       let k : d ≡ e = omega arith in
-      by_test (eqb (f e) 0) (λ b. factor_of (if b then rising f (suc e) n else record { effect = e; factor = f e } ∷ rising f (suc e) n) d ≡ f d)
+      by_test (eqb (f e) 0) (λ b. factor_of (if b then rising f (suc e) n else (record { effect = e; factor = f e } ∷ rising f (suc e) n)) d ≡ f d)
       (λ z. unnamed (rising f (suc e) n) d (below f (suc e) n d (omega arith)) ∙ sym (ap f k ∙ eqb-true (f e) 0 z))
       (λ _. ap (λ (b : Bool). if b then f e else factor_of (rising f (suc e) n) d) (eq-eqb e d (sym k)) ∙ ap f (sym k))
   | no m ↦
       let less = rising_factor f (suc e) n d (omega arith) (omega arith) in
-      by_test (eqb (f e) 0) (λ b. factor_of (if b then rising f (suc e) n else record { effect = e; factor = f e } ∷ rising f (suc e) n) d ≡ f d)
+      by_test (eqb (f e) 0) (λ b. factor_of (if b then rising f (suc e) n else (record { effect = e; factor = f e } ∷ rising f (suc e) n)) d ≡ f d)
       (λ _. less)
       (λ _. ap (λ (b : Bool). if b then f e else factor_of (rising f (suc e) n) d) (ne_eqb e d (λ z. omega arith)) ∙ less)
 ]
@@ -95,7 +95,7 @@ rising_factor f e (suc n) d l h = elim (dec_le d e) [
 pub rising_cong : (f g : ℕ → ℕ) (e n : ℕ) → ((d : ℕ) → e ≤ d → d < e + n → f d ≡ g d) → rising f e n ≡ rising g e n
 rising_cong f g e zero h = refl
 rising_cong f g e (suc n) h =
-    ap₂ (λ (k : ℕ) (rest : List Term). if eqb k 0 then rest else record { effect = e; factor = k } ∷ rest) (h e (omega arith) (omega arith))
+    ap₂ (λ (k : ℕ) (rest : List Term). if eqb k 0 then rest else (record { effect = e; factor = k } ∷ rest)) (h e (omega arith) (omega arith))
     (rising_cong f g (suc e) n (λ d l m. h d (omega arith) (omega arith)))
 
 -- ---- the records of all rows

@@ -1,4 +1,5 @@
 -- A chain that names no effect twice is determined up to order by its factors: what is summed over it is a sum over all effects.
+use Rattle.std.specs.Prelude.{if◌then◌else◌}
 use mathlib.Core.Path.{◌≡◌, refl, sym, ◌∙◌, ap, ap₂}
 use mathlib.Core.Bool.{Bool}
 use mathlib.Core.List.{List, [], ◌∷◌}
@@ -7,7 +8,7 @@ use native.Mathlib.Omega.{arith}
 use lib.Dec.{eqb}
 use lib.IntN.{ℤ, pos, ◌+ℤ◌, ◌*ℤ◌}
 use borrow.Author.Tests.{eqb-true, eq-eqb, ne_eqb}
-use Rattle.exact.specs.Choice.{if◌then◌else◌, minℤ, maxℤ}
+use Rattle.exact.specs.Choice.{minℤ, maxℤ}
 use Rattle.exact.specs.Questions.{better}
 use Rattle.exact.specs.Ranges.{sum_to}
 use Rattle.exact.specs.declared.Question.{Question}

@@ -1,4 +1,5 @@
 -- Accepted jobs that agree have the same values, governing rows, patch bytes and attained placements; so have a job and its form. Records walked and omissions of factors 0 may differ.
+use Rattle.std.specs.Prelude.{if◌then◌else◌}
 use mathlib.Core.Path.{◌≡◌, refl, sym, ◌∙◌, ap, ap₂, subst}
 use mathlib.Core.Bool.{Bool}
 use mathlib.Core.Logic.{◌↔◌}
@@ -9,7 +10,6 @@ use native.Mathlib.Omega.{arith}
 use lib.Dec.{eqb}
 use borrow.Author.Tests.{eqb-true}
 use lib.IntN.{ℤ, pos, ◌+ℤ◌, ◌*ℤ◌}
-use Rattle.exact.specs.Choice.{if◌then◌else◌}
 use Rattle.exact.specs.Parts.{up}
 use Rattle.exact.specs.Questions.{better, extreme, NoBetter}
 use Rattle.exact.specs.declared.Question.{Question}

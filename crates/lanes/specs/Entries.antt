@@ -1,7 +1,6 @@
 -- A lane's best element: raising where the question's ordinate is, or lowering where the other question's is.
-use Rattle.std.specs.Prelude.{Bool, ℕ, ◌<◌, max, ℤ, pos, ◌*ℤ◌, get_or, ltb, ◌≤ℤ◌}
+use Rattle.std.specs.Prelude.{Bool, ℕ, ◌<◌, max, ℤ, pos, ◌*ℤ◌, get_or, ltb, ◌≤ℤ◌, if◌then◌else◌}
 use Rattle.exact.specs.Bounds.{Within}
-use Rattle.exact.specs.Choice.{if◌then◌else◌}
 use Rattle.exact.specs.Questions.{beats, other}
 use Rattle.exact.specs.declared.Question.{Question}
 use Rattle.exact.specs.declared.Question.TheVariants.{Greatest, Least}

@@ -1,6 +1,5 @@
 -- A live kind's best loading in a job: each lane's element, the lanes of its placement, and its value.
-use Rattle.std.specs.Prelude.{◌≡◌, Bool, List, ℕ, ◌≤◌, ◌<◌, length, get_or, eqb}
-use Rattle.exact.specs.Choice.{if◌then◌else◌}
+use Rattle.std.specs.Prelude.{◌≡◌, Bool, List, ℕ, ◌≤◌, ◌<◌, length, get_or, eqb, if◌then◌else◌}
 use Rattle.exact.specs.declared.Question.{Question}
 use Rattle.model.specs.Job.{Job, Live}
 use Rattle.model.specs.Line.{Kind, HN, HO, line_effect}

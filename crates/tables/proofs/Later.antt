@@ -1,4 +1,5 @@
 -- The terms of the effects after some, as a loop over the effects meets them.
+use Rattle.std.specs.Prelude.{if◌then◌else◌}
 use mathlib.Core.Path.{◌≡◌, refl, sym, ◌∙◌, ap}
 use mathlib.Core.Bool.{Bool}
 use mathlib.Core.List.{List, [], ◌∷◌, ◌++◌, append_assoc}
@@ -8,7 +9,6 @@ use native.Mathlib.Omega.{arith}
 use lib.Dec.{eqb}
 use lib.ListN.{length, get_or}
 use borrow.Author.Tests.{eq-eqb, ne_eqb}
-use Rattle.exact.specs.Choice.{if◌then◌else◌}
 use Rattle.buffer.specs.Stored.{Stored}
 use Rattle.buffer.proofs.Left.{Left, some_less}
 use Rattle.model.specs.Job.{Term}
@@ -44,7 +44,7 @@ module _ (factors : List ℕ) (n : ℕ) where
         let a : suc j ≡ j + 1 = sym (add-one j) in
         ap (rising factor (suc j)) e
         ∙ ap (λ (y : ℕ). if eqb y 0 then rising factor (suc (suc j)) (n - (j + 1)) else term_of (suc j) y ∷ rising factor (suc (suc j)) (n - (j + 1))) own
-        ∙ ap (λ (i : ℕ). if eqb x 0 then rising factor (suc i) (n - (j + 1)) else term_of i x ∷ rising factor (suc i) (n - (j + 1))) a
+        ∙ ap (λ (i : ℕ). if eqb x 0 then rising factor (suc i) (n - (j + 1)) else (term_of i x ∷ rising factor (suc i) (n - (j + 1)))) a
 
     -- effect j + 1 without a factor, and with one, read at place i
     pub later_without : {i : ℕ} → i ≡ j → get_or factors i 0 ≡ 0 → later j ≡ later (j + 1)
