@@ -46,6 +46,7 @@ length_range h (inr (inr (inl e))) = omega arith
 length_range h (inr (inr (inr (inl e)))) = omega arith
 length_range h (inr (inr (inr (inr (inl e))))) = omega arith
 length_range h (inr (inr (inr (inr (inr (inl e)))))) = omega arith
+length_range h (inr (inr (inr (inr (inr (inr x6)))))) = elim x6 [ ]
 
 module _ {b : List ℕ} {head : Header} (ready : Ready b head) where
   c : Clear b

@@ -1,0 +1,81 @@
+use mathlib.Core.Path.{◌≡◌, refl, sym, ◌∙◌, ap, subst}
+use mathlib.Core.Option.{none}
+use mathlib.Core.List.{List, ◌++◌}
+use Prim.Native.Nat.{ℕ}
+use native.Mathlib.Omega.{arith}
+use lib.ListN.{length, drop}
+use Rattle.model.specs.Format.{header_of, section_of}
+use Rattle.model.specs.Decode.{decode, influence_line}
+use Rattle.model.specs.Line.{patch_bytes}
+use Rattle.model.specs.Refusals.{verdict}
+use Rattle.model.specs.Answered.{Answered, refused, refusal_answer, accepted, AccountRight}
+use Rattle.model.specs.declared.Account.{Account}
+use Rattle.model.specs.declared.Header.{Header}
+use Rattle.model.specs.declared.Part.TheVariants.{Line}
+use Rattle.model.proofs.Verdict.{clear, has_header, job_refuses, short_refused, long_accepted}
+use Rattle.sections.proofs.Sizes.{counts}
+use Rattle.job.proofs.Rulings.{is_refused, is_accepted}
+use Rattle.pair.specs.LineFits.{LineFits}
+use Rattle.line.proofs.Fitting.{fits_fewer}
+use Rattle.accepted.specs.AccountParts.{Ready, PartsRight}
+use Rattle.accepted.proofs.Fits.{sized, line_fits, signed, spaced}
+use Rattle.kernel.proofs.Right.{account_right}
+use Rattle.kernel.proofs.solve.Goals as goal
+
+-- from the header on
+module _ (c : goal.After-read-head) where
+  ready : Ready c.args.job.now c.read-head.result
+  ready = let v = c.verdict-v in record { own = c.read-head.ensures; accepted = is_accepted v.ensures c.if-v-ne0.false }
+
+  pieces : c.read-head.result.pieces ≡ (header_of c.args.job.now).pieces
+  pieces = ap (λ (h : Header). h.pieces) c.read-head.ensures
+
+-- the account with its patch bytes written is the whole answer
+answers : {b before after line : List ℕ} {head : Header} (r : Ready b head) → line ≡ section_of b Line → after ≡ patch_bytes (influence_line line (header_of b).h head.pieces) ++ drop head.pieces before →
+    (a : Account) → PartsRight (decode b) a → verdict b (length before) ≡ none → Answered b before (record { refusal = 0; place = 0; account = a }) after
+unfolding decode
+answers {b} {before} {after} {line} {head} r l m a p v =
+    let marked : after ≡ patch_bytes (decode b).line ++ drop (header_of b).pieces before =
+    subst (λ (h : Header). after ≡ patch_bytes (influence_line (section_of b Line) (header_of b).h h.pieces) ++ drop h.pieces before) r.own
+    (subst (λ (l : List ℕ). after ≡ patch_bytes (influence_line l (header_of b).h head.pieces) ++ drop head.pieces before) l m) in
+    accepted v
+    (record {
+      refusal = refl;
+      place = refl;
+      account = subst (λ (l : List ℕ). AccountRight (decode b) l a) (sym marked) (account_right (decode b) (signed r) (spaced r) (drop (header_of b).pieces before) a p);
+      patch = marked;
+    })
+
+pub returns-then-v-ne0 : goal.returns-then-v-ne0
+returns-then-v-ne0 c =
+    let v = c.verdict-v in
+    refused _ (job_refuses _ _ (is_refused v.ensures c.if-v-ne0.true)) c.refused.ensures refl
+
+pub read-head-requires : goal.read-head-requires
+read-head-requires c =
+    let v = c.verdict-v in
+    let b = c.args.job.now in
+    has_header b (clear _ (is_accepted v.ensures c.if-v-ne0.false)).c1
+
+pub returns-then-patch-head : goal.returns-then-patch-head
+returns-then-patch-head c =
+    refused _ (short_refused _ _ (ready c.before.before.before.before).accepted (omega (arith, pieces c.before.before.before.before, c.if-patch-head.true))) (c.refused-then-patch-head.ensures ∙ ap (λ n. refusal_answer (record { number = 9; place = n })) (pieces c.before.before.before.before)) refl
+
+pub section-requires : goal.section-requires
+section-requires c = sized (ready c.before.before.before)
+
+pub mark-requires : goal.mark-requires
+mark-requires c =
+    let fits = subst (λ (l : List ℕ). LineFits l c.read-head.result.pieces) (sym c.section.ensures) (line_fits (ready c.before.before.before.before.before)) in
+    record { line_fits = fits_fewer fits (omega arith); n_in_bounds = omega (arith, c.if-patch-head.false) }
+
+pub returns : goal.returns
+returns c =
+    answers (ready c.before.before.before.before.before.before.before.before) c.section.ensures (c.mark.ensures _) c.account-a.result c.account-a.ensures
+    (long_accepted _ _ (ready c.before.before.before.before.before.before.before.before).accepted (omega (arith, pieces c.before.before.before.before.before.before.before.before, c.if-patch-head.false)))
+
+pub overflow_cast-n : goal.overflow_cast-n
+overflow_cast-n c = omega (arith, (counts (sized (ready c.before.before.before))).pieces)
+
+pub account-a-requires : goal.account-a-requires
+account-a-requires c = ready c.before.before
