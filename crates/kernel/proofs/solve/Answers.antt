@@ -7,13 +7,15 @@ use lib.ListN.{length, drop}
 use Rattle.model.specs.Format.{header_of, section_of}
 use Rattle.model.specs.Decode.{decode, influence_line}
 use Rattle.model.specs.Line.{patch_bytes}
-use Rattle.model.specs.Refusals.{verdict}
+use Rattle.model.specs.Refusals.{job_verdict, verdict}
 use Rattle.model.specs.Answered.{Answered, refused, refusal_answer, accepted, AccountRight}
 use Rattle.model.specs.declared.Account.{Account}
 use Rattle.model.specs.declared.Header.{Header}
 use Rattle.model.specs.declared.Part.TheVariants.{Line}
 use Rattle.model.proofs.Verdict.{clear, has_header, job_refuses, short_refused, long_accepted}
 use Rattle.sections.proofs.Sizes.{counts}
+use Rattle.job.specs.Rulings.{Rules}
+use Rattle.job.specs.declared.refusals.Ruling.{Ruling}
 use Rattle.job.proofs.Rulings.{is_refused, is_accepted}
 use Rattle.pair.specs.LineFits.{LineFits}
 use Rattle.line.proofs.Fitting.{fits_fewer}
@@ -23,12 +25,11 @@ use Rattle.kernel.proofs.Right.{account_right}
 use Rattle.kernel.proofs.solve.Goals as goal
 
 -- from the header on
-module _ (c : goal.After-read-head) where
-  ready : Ready c.args.job.now c.read-head.result
-  ready = let v = c.verdict-v in record { own = c.read-head.ensures; accepted = is_accepted v.ensures c.if-v-ne0.false }
+ready : {b : List ℕ} {head : Header} {r : Ruling} → head ≡ header_of b → Rules r (job_verdict b) → r.number ≡ 0 → Ready b head
+ready own says z = record { own = own; accepted = is_accepted says z }
 
-  pieces : c.read-head.result.pieces ≡ (header_of c.args.job.now).pieces
-  pieces = ap (λ (h : Header). h.pieces) c.read-head.ensures
+pieces : (b : List ℕ) {head : Header} → head ≡ header_of b → head.pieces ≡ (header_of b).pieces
+pieces b own = ap (λ (h : Header). h.pieces) own
 
 -- the account with its patch bytes written is the whole answer
 answers : {b before after line : List ℕ} {head : Header} (r : Ready b head) → line ≡ section_of b Line → after ≡ patch_bytes (influence_line line (header_of b).h head.pieces) ++ drop head.pieces before →
@@ -59,23 +60,23 @@ read-head-requires c =
 
 pub returns-then-patch-head : goal.returns-then-patch-head
 returns-then-patch-head c =
-    refused _ (short_refused _ _ (ready c.before.before.before.before).accepted (omega (arith, pieces c.before.before.before.before, c.if-patch-head.true))) (c.refused-then-patch-head.ensures ∙ ap (λ n. refusal_answer (record { number = 9; place = n })) (pieces c.before.before.before.before)) refl
+    refused _ (short_refused _ _ (ready c.read-head.ensures c.verdict-v.ensures c.if-v-ne0.false).accepted (omega (arith, pieces c.args.job.now c.read-head.ensures, c.if-patch-head.true))) (c.refused-then-patch-head.ensures ∙ ap (λ n. refusal_answer (record { number = 9; place = n })) (pieces c.args.job.now c.read-head.ensures)) refl
 
 pub section-requires : goal.section-requires
-section-requires c = sized (ready c.before.before.before)
+section-requires c = sized (ready c.read-head.ensures c.verdict-v.ensures c.if-v-ne0.false)
 
 pub mark-requires : goal.mark-requires
 mark-requires c =
-    let fits = subst (λ (l : List ℕ). LineFits l c.read-head.result.pieces) (sym c.section.ensures) (line_fits (ready c.before.before.before.before.before)) in
+    let fits = subst (λ (l : List ℕ). LineFits l c.read-head.result.pieces) (sym c.section.ensures) (line_fits (ready c.read-head.ensures c.verdict-v.ensures c.if-v-ne0.false)) in
     record { line_fits = fits_fewer fits (omega arith); n_in_bounds = omega (arith, c.if-patch-head.false) }
 
 pub returns : goal.returns
 returns c =
-    answers (ready c.before.before.before.before.before.before.before.before) c.section.ensures (c.mark.ensures _) c.account-a.result c.account-a.ensures
-    (long_accepted _ _ (ready c.before.before.before.before.before.before.before.before).accepted (omega (arith, pieces c.before.before.before.before.before.before.before.before, c.if-patch-head.false)))
+    answers (ready c.read-head.ensures c.verdict-v.ensures c.if-v-ne0.false) c.section.ensures (c.mark.ensures _) c.account-a.result c.account-a.ensures
+    (long_accepted _ _ (ready c.read-head.ensures c.verdict-v.ensures c.if-v-ne0.false).accepted (omega (arith, pieces c.args.job.now c.read-head.ensures, c.if-patch-head.false)))
 
 pub overflow_cast-n : goal.overflow_cast-n
-overflow_cast-n c = omega (arith, (counts (sized (ready c.before.before.before))).pieces)
+overflow_cast-n c = omega (arith, (counts (sized (ready c.read-head.ensures c.verdict-v.ensures c.if-v-ne0.false))).pieces)
 
 pub account-a-requires : goal.account-a-requires
-account-a-requires c = ready c.before.before
+account-a-requires c = ready c.read-head.ensures c.verdict-v.ensures c.if-v-ne0.false
