@@ -50,7 +50,7 @@ run_cut() {
 
 command -v rt >/dev/null || fail 'rt is not on PATH'
 mkdir -p "$dir" || fail "$dir cannot be made"
-rt run hnho </dev/null >"$dir/rt.log" 2>&1 || { tail -n 20 "$dir/rt.log" >&2; fail 'rt run hnho'; }
+(cd crates/hnho && rt run </dev/null) >"$dir/rt.log" 2>&1 || { tail -n 20 "$dir/rt.log" >&2; fail 'rt run of hnho'; }
 
 job=examples/job-a.bin
 text=$(cat crates/hnho/stdout)$'\n'

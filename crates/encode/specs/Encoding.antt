@@ -23,7 +23,7 @@ account_count = 157
 abbrev pub account_size : ℕ
 account_size = 8 * account_count
 
--- a live kind's greatest and least value, in N-as-U
+-- a live kind's greatest and least value, in N·U
 abbrev pub value_numbers : Traffic → List ℤ
 value_numbers t = t.greatest.value ∷ t.least.value ∷ []
 
@@ -40,7 +40,7 @@ abbrev pub flag_number : Bool → ℕ
 flag_number false = 0
 flag_number true = 1
 
--- a limit state's value in thousandths of N-as-U, its row, the effects left out, whether the traffic is, and k in thousandths
+-- a limit state's value in thousandths of N·U, its row, the effects left out, whether the traffic is, and k in thousandths
 abbrev pub governing_numbers : Governing → List ℤ
 governing_numbers g = g.value ∷ pos g.row ∷ pos g.omitted ∷ pos (flag_number g.unladen) ∷ pos g.k ∷ []
 

@@ -1,4 +1,4 @@
--- The laws of `allTo` and `extremeOver`.
+-- The laws of `all_to` and `extreme_over`.
 use Rattle.std.specs.Prelude.{if◌then◌else◌}
 use mathlib.Core.Path.{◌≡◌, refl, sym, ap, ap₂, subst}
 use mathlib.Core.Bool.{Bool, true, ◌&&◌}

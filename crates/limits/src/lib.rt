@@ -120,7 +120,7 @@ fn kilonewton_effect_misfit(s: &[u8], head: Header, i: usize) -> Fault
     field(0, within(s, p, 1000000000), mark)
 }
 
-// The value in N.U of an effect, in the two words from p on, is within its limits.
+// The value in N·U of an effect, in the two words from p on, is within its limits.
 fn newton_value_fits(s: &[u8], p: usize) -> bool
     requires { 4 * p + 8 ≤ length s.now }
     ensures { result ≡ between (neg_ℤ (pos 100000000000000)) (pos 100000000000000) (wide (word_at s.now p) (word_at s.now (p + 1))) }

@@ -21,7 +21,7 @@ pair_most = 10000
 abbrev pub area_most : ℕ
 area_most = 10000000
 
--- a kind's line effect in 75 N-as-U: 7 times twice an area, and a pair of its axles
+-- a kind's line effect in 75 N·U: 7 times twice an area, and a pair of its axles
 abbrev pub line_most : Kind → ℕ
 line_most kind = 7 * area_most + up (axle kind) * pair_most
 
@@ -67,17 +67,17 @@ factored_most = 20 * hn_lane_most
 abbrev pub sum_most : ℕ
 sum_most = 20 * ho_lane_most + 68 * hn_lane_most
 
--- a traffic value in N-as-U: 3 times 1300 times a sum over 800000 times 10 is below 9.62e11
+-- a traffic value in N·U: 3 times 1300 times a sum over 800000 times 10 is below 9.62e11
 abbrev pub traffic_most : ℕ
 traffic_most = 1000000000000
 
 -- ---- rows
 
--- an effect's value in N-as-U: refusal 6; the 1e9 kN·U of one in that unit are a hundredth of it
+-- an effect's value in N·U: refusal 6; the 1e9 kN·U of one in that unit are a hundredth of it
 abbrev pub effect_most : ℕ
 effect_most = 100000000000000
 
--- a share of a chain's value in thousandths of N-as-U: a factor of at most 3000 times an effect
+-- a share of a chain's value in thousandths of N·U: a factor of at most 3000 times an effect
 abbrev pub share_most : ℕ
 share_most = 3000 * effect_most
 

@@ -19,7 +19,7 @@ pub kilonewton_editions : (e : Edition) → (e ≡ First) ⊎ (e ≡ Fourth) →
 kilonewton_editions e (inl h) = rw h refl
 kilonewton_editions e (inr h) = rw h refl
 
--- 2 and 3 have effects in N-as-U
+-- 2 and 3 have effects in N·U
 pub newton_editions : (e : Edition) → (e ≡ Second) ⊎ (e ≡ Third) → effect_unit e ≡ newtons
 newton_editions e (inl h) = rw h refl
 newton_editions e (inr h) = rw h refl

@@ -27,7 +27,7 @@ use Rattle.model.proofs.Counts.{Count, between_count, between_within}
 use Rattle.words.proofs.Fits.{or_none, moved_none, fits, first_fits}
 
 -- ---- 6: effects, rows and records, item i of each section counting from 0
--- an effect's value in N-as-U, within 1e14 in either unit
+-- an effect's value in N·U, within 1e14 in either unit
 value_within : (u : EffectUnit) (p : Profile) (s : List ℕ) (i : ℕ) → let k = length (effect_fields u p) in get_or (effect_fields u p) 0 free (item_from s (k * i) i) (word_at s (k * i)) ≡ true → Within 100000000000000 (effect_value u s (effect_size u * i))
 value_within kilonewtons p s i t = within_le (within_mul (within_pos 1000 (omega arith)) (between_within 1000000000 (word_at s (2 * i)) t)) (omega arith)
 value_within newtons p s i t = between_within 100000000000000 (wide (word_at s (3 * i)) (word_at s (3 * i + 1))) t
@@ -59,7 +59,7 @@ module _ (b : List ℕ) (clear : fault6 b ≡ none) (i : ℕ) where
   unfolding fault6
   searches = let r = or_none _ _ clear in let t = or_none _ _ r.1 in (moved_none _ _ r.0, moved_none _ _ t.0, moved_none _ _ (or_none _ none t.1).0)
 
-  -- an effect's value is within 1e14 N-as-U, in either unit
+  -- an effect's value is within 1e14 N·U, in either unit
   pub effect_fits : i < head.effects → let u = effect_unit head.edition in Within 100000000000000 (effect_value u (section_of b Effects) (effect_size u * i))
   effect_fits h =
       let u = effect_unit head.edition in

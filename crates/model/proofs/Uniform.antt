@@ -83,7 +83,7 @@ module _ (k : ℕ) (p : Piece) where
       loaded : ℕ → ℤ
       loaded j = if loads j then ends j else pos 0
 
-  -- the uniform load of a set of parts, in 75 N-as-U times k k
+  -- the uniform load of a set of parts, in 75 N·U times k k
   abbrev parts_load : ℕ → (ℕ → Bool) → ℤ
   parts_load h loads = uniform *ℤ pos h *ℤ sum_to k (λ j. if loads j then ends j else pos 0)
 

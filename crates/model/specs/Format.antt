@@ -29,7 +29,7 @@ profile_of Second = highway
 profile_of Third = highway
 profile_of Fourth = rural
 
--- the unit of effects: kN-U, each value a word, or N-U, each value a low and a high half
+-- the unit of effects: kN·U, each value a word, or N·U, each value a low and a high half
 pub data EffectUnit : Type 0 where
   kilonewtons newtons : EffectUnit
 
@@ -128,7 +128,7 @@ listed_counts more =
     ∷ range 0 512  -- C
     ∷ more
 
--- the header's words from 7 on where effects are in N-U, and those after word 11
+-- the header's words from 7 on where effects are in N·U, and those after word 11
 abbrev pub newton_counts : List Field → List Field
 newton_counts more =
     listed_counts
@@ -159,11 +159,11 @@ mark rural = numbered (λ i. let m = if ltb i 3 then 1 else 2 in range m m)
 -- an effect's words: its value, then its mark, which tells whether it may be left out
 abbrev pub effect_fields : EffectUnit → Profile → List Field
 effect_fields kilonewtons profile =
-    within 1000000000  -- value in kN-U
+    within 1000000000  -- value in kN·U
     ∷ mark profile
     ∷ []
 effect_fields newtons profile =
-    given 1 (wide_within 100000000000000)  -- low half of the value in N-U, at fault if the value is outside its limits
+    given 1 (wide_within 100000000000000)  -- low half of the value in N·U, at fault if the value is outside its limits
     ∷ free  -- its high half
     ∷ mark profile
     ∷ []

@@ -33,7 +33,7 @@ entry_is HO (Ho sense) = true
 abbrev pub placed_lanes : Job → Kind → Placement → ℕ
 placed_lanes job kind p = count_to (lanes job) (λ i. entry_is kind (lane_at p i).entry)
 
--- lane i's best where it is of the kind, else 0: 75 N-as-U times thousandths times the sums' denominator
+-- lane i's best where it is of the kind, else 0: 75 N·U times thousandths times the sums' denominator
 abbrev pub placed_under : Question → Job → Kind → Placement → (i : ℕ) → ℤ
 placed_under q job kind p i = if entry_is kind (lane_at p i).entry then lane_effect q job kind i else pos 0
 

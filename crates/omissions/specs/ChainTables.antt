@@ -19,7 +19,7 @@ abbrev pub NamesTo : ℕ → List Term → Type 0
 NamesTo n [] = Unit {0}
 NamesTo n (t ∷ rest) = (1 ≤ t.effect) × (t.effect ≤ n) × NamesTo n rest
 
--- every effect's value is within the limits of one in N-as-U, which are the wider ones
+-- every effect's value is within the limits of one in N·U, which are the wider ones
 abbrev pub EffectsInReach : EffectUnit → List ℕ → Type 0
 EffectsInReach unit s = (e : ℕ) → 1 ≤ e → effect_bytes unit * e ≤ length s → Within effect_most (effect_at unit s e).value
 

@@ -15,7 +15,7 @@ use Rattle.omissions.specs.declared.Share.{Share}
 use Rattle.omissions.specs.declared.Chained.{Chained}
 use Rattle.omissions.specs.declared.ChainedBoth.{ChainedBoth}
 
--- an effect is stated right: its unit times its number is its value in N-as-U
+-- an effect is stated right: its unit times its number is its value in N·U
 pub record StatedRight (effect : Effect) (x : Stated) : Type 0 where
   pub value : x.unit *ℤ x.number ≡ effect.value
   pub optional : x.optional ≡ effect.optional

@@ -17,7 +17,7 @@ ghost use Rattle.omissions.specs.Chained.{StatedRight, term_of, ShareRight, leav
 use exact::Question;
 use model::Edition;
 
-// An effect as its job states it: so many units, a unit in N.U, and whether it may be left out.
+// An effect as its job states it: so many units, a unit in N·U, and whether it may be left out.
 #[derive(Clone, Copy)]
 pub struct Stated {
     pub number: i64,
@@ -33,7 +33,7 @@ fn optional(effects: &[u8], p: usize) -> bool
     words::count(effects, p) == 2
 }
 
-// Effect e of an effect section in typeof.kN.U.
+// Effect e of an effect section in kN·U.
 fn in_kilonewtons(effects: &[u8], e: usize) -> Stated
     requires { (1 ≤ e) × (effect_bytes kilonewtons * e ≤ length effects.now) }
     ensures { StatedRight (effect_at kilonewtons effects.now e) result }
@@ -46,7 +46,7 @@ fn in_kilonewtons(effects: &[u8], e: usize) -> Stated
     }
 }
 
-// Effect e of an effect section in N.U.
+// Effect e of an effect section in N·U.
 fn in_newtons(effects: &[u8], e: usize) -> Stated
     requires { (1 ≤ e) × (effect_bytes newtons * e ≤ length effects.now) }
     ensures { StatedRight (effect_at newtons effects.now e) result }

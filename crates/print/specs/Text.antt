@@ -18,11 +18,11 @@ use Rattle.model.specs.declared.Answer.{Answer}
 abbrev pub report : List ℕ → List ℕ → List ℕ
 report greatest least = (ascii " greatest " ++ greatest) ++ (ascii " least " ++ least) ++ ascii "\n"
 
--- a live kind's line, in N-as-U
+-- a live kind's line, in N·U
 abbrev pub traffic_line : List ℕ → Traffic → List ℕ
 traffic_line name t = name ++ report (signed t.greatest.value) (signed t.least.value)
 
--- a value with its row, in thousandths of N-as-U
+-- a value with its row, in thousandths of N·U
 abbrev pub governing_text : Governing → List ℕ
 governing_text g = signed g.value ++ (ascii " row " ++ decimal g.row)
 

@@ -10,7 +10,7 @@ use model::{Account, Answer, Governing, State, Traffic};
 // Room for every answer's text.
 pub const SIZE: usize = 384;
 
-// A live kind's line, in N.U.
+// A live kind's line, in N·U.
 fn put_traffic(out: &mut [u8], at: usize, name: &[u8], t: Traffic) -> usize
     requires { at + length name.now + 60 ≤ length out.old }
     ensures stored { Stored out.old at (traffic_line name.now t) out.new result }
@@ -24,7 +24,7 @@ fn put_traffic(out: &mut [u8], at: usize, name: &[u8], t: Traffic) -> usize
     buffer::put_bytes(out, end, b"\n")
 }
 
-// A value with its row after a label, in thousandths of N.U.
+// A value with its row after a label, in thousandths of N·U.
 fn put_governing(out: &mut [u8], at: usize, label: &[u8], g: Governing) -> usize
     requires { at + length label.now + 46 ≤ length out.old }
     ensures stored { Stored out.old at (label.now ++ governing_text g) out.new result }

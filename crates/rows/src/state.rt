@@ -19,7 +19,7 @@ use exact::Question;
 use model::{Edition, Governing, Header, State};
 use omissions::{Chained, ChainedBoth};
 
-// The best traffic value of each live kind for one question, in N.U.
+// The best traffic value of each live kind for one question, in N·U.
 #[derive(Clone, Copy)]
 pub struct LiveValues {
     pub normal: i64,
