@@ -2,7 +2,7 @@ use mathlib.Core.Path.{◌≡◌, subst}
 use mathlib.Core.List.{List}
 use Prim.Native.Nat.{ℕ, ◌+◌, ◌*◌, ◌≤◌}
 use lib.ListN.{length}
-use Rattle.model.specs.Format.{EffectUnit, effect_unit, effect_size}
+use Rattle.model.specs.Format.{EffectUnit, effect_size}
 use Rattle.model.proofs.Editions.{kilonewton_editions, newton_editions}
 use Rattle.limits.proofs.effect_misfit.Goals as goal
 

@@ -1,13 +1,9 @@
-use Rattle.model.specs.Format.{size}
-use Rattle.model.specs.declared.Part.TheVariants.{Line}
 use mathlib.Core.Bool.{Bool}
 use lib.IntN.{ℤ}
 use mathlib.Core.Path.{◌≡◌, sym, ◌∙◌, ap₂}
-use Prim.Native.Nat.{◌+◌, ◌-◌, ◌*◌}
 use native.Mathlib.Omega.{arith}
 use mir.Syntax.{w64}
 use Rattle.exact.proofs.Held.{got}
-use Rattle.words.specs.Words.{word_at}
 use Rattle.model.specs.Refusals.{crosses}
 use Rattle.words.specs.Fields.{misfit}
 use Rattle.ordinates.proofs.Pieces.{piece}

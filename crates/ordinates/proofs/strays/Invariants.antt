@@ -2,9 +2,7 @@ use mathlib.Core.Path.{◌≡◌}
 use mathlib.Core.Bool.{true}
 use Prim.Native.Nat.{◌-◌}
 use lib.IntN.{neg_ℤ}
-use mir.Syntax.{w32}
 use Rattle.exact.specs.Choice.{between}
-use mir.Val.{to_z}
 use Rattle.words.specs.Words.{word_at}
 use Rattle.limits.proofs.Scans.{Tally}
 use Rattle.ordinates.proofs.strays.Given as goal

@@ -1,14 +1,12 @@
-use mathlib.Core.Path.{◌≡◌, sym, ◌∙◌, ap}
-use mathlib.Core.List.{List}
-use Prim.Native.Nat.{ℕ}
+use mathlib.Core.Path.{sym, ◌∙◌, ap}
 use lib.Dec.{lit<}
 use lib.ListN.{length}
 use mir.Syntax.{w64}
 use Rattle.exact.proofs.Held.{got, lit, eq_yes}
 use Rattle.words.specs.Words.{word_at}
-use Rattle.model.specs.Format.{is, edition_of}
+use Rattle.model.specs.Format.{is}
 use Rattle.sections.proofs.Tests.{is_failed}
-use Rattle.job.proofs.Frames.{calls, calls_fourth, calls_third, calls_second, calls_first}
+use Rattle.job.proofs.Frames.{calls_fourth, calls_third, calls_second, calls_first}
 use Rattle.job.proofs.refusals.has_edition.Goals as goal
 
 pub returns-then-edition-eq-RURAL_EDITION : goal.returns-then-edition-eq-RURAL_EDITION

@@ -1,7 +1,6 @@
 use mathlib.Core.Path.{refl}
 use mathlib.Core.Logic.{inl, inr}
 use native.Mathlib.Omega.{arith}
-use Rattle.model.proofs.Editions.{one_carriageway_editions}
 use Rattle.sections.proofs.header.second_width.Goals as goal
 
 pub count-requires : goal.count-requires
