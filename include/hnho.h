@@ -418,8 +418,7 @@ static inline const char *hnho_refusal_text(int number) {
     return "accepted";
   case HNHO_NOT_A_JOB:
     return "under 10 words, in edition 4 under 11, in edition 2 under 12, in edition 3 under 13, a byte count that 4 does not "
-           "divide, or word 0 is none of 1 to 4; mended by whoever packs the job (in hnho_write also a job of "
-           "edition 4, which has no standard form; mended by the host)";
+           "divide, or word 0 is none of 1 to 4; mended by whoever packs the job";
   case HNHO_HEADER_LIMIT:
     return "a header word outside its limits; mended by whoever packs the job (at place 0 a short account or report buffer, or "
            "h, N, the section's length or the mode of a train's call outside its limits; mended by the host)";

@@ -190,8 +190,8 @@ for job in spelled arch deck motorway; do
   step "the page of the $job job's form" same_but_records target/c/host "examples/$job-job.bin" "target/c/$job-form.bin"
 done
 step 'the form of a farm job' fails 1 "refused 1 at 0: under 10 words, in edition 4 under 11, in edition 2 under 12, in edition 3 under \
-13, a byte count that 4 does not divide, or word 0 is none of 1 to 4; mended by whoever packs the job (in hnho_write also a job of \
-edition 4, which has no standard form; mended by the host)" target/c/form examples/farm-job.bin
+13, a byte count that 4 does not divide, or word 0 is none of 1 to 4; mended by whoever packs the job" \
+  target/c/form examples/farm-job.bin
 step 'the form of a refused job' fails 1 \
   'refused 3 at 85: not the number of words that the header calls for; mended by whoever packs the job' target/c/form target/c/short.bin
 step 'a job that is not there' fails 1 'form: target/c/none.bin cannot be read' target/c/form target/c/none.bin

@@ -1060,7 +1060,6 @@ static void refusal_texts(void) {
   expect(strstr(hnho_refusal_text(HNHO_HEADER_LIMIT), host) != NULL, "does not tell of a short buffer");
   expect(strstr(hnho_refusal_text(HNHO_NOT_A_JOB), "in edition 4 under 11, in edition 2 under 12, in edition 3 under 13") != NULL,
          "does not tell of headers");
-  expect(strstr(hnho_refusal_text(HNHO_NOT_A_JOB), "edition 4, which has no standard form; mended by the host") != NULL, "does not tell of farm jobs");
   expect(strstr(hnho_refusal_text(HNHO_ORDINATE_LIMIT), "-500 to 500 with two carriageways") != NULL, "does not tell of the limits");
   for (i = -1; i < 256; i += i < 0 ? texts + 1 : 1)
     expect(strcmp(hnho_refusal_text(i), hnho_refusal_text(texts - 1)) == 0, "is of no refusal");

@@ -1,6 +1,6 @@
 #!/usr/bin/env bash
 # The program hnho on good, empty, overlong, unreadable and failing input, and on output that cannot be written or only in part. Its products are in target/program.
-# Each run has status 0, as a program of the kit has none to set: what is wrong must stand on standard error.
+# Each run has status 0, as the older kit's programs had none to set: what is wrong must stand on standard error.
 set -u
 cd "$(dirname "$0")/.." || exit 2
 
