@@ -2,6 +2,7 @@ use mathlib.Core.Path.{◌≡◌, sym, ◌∙◌, subst}
 use mathlib.Core.List.{List}
 use Prim.Native.Nat.{ℕ, ◌≤◌}
 use native.Mathlib.Omega.{arith}
+use lib.Dec.{lit≤}
 use lib.IntN.{ℤ}
 use Rattle.exact.specs.declared.Question.TheVariants.{Greatest, Least}
 use Rattle.exact.proofs.Extremes.{by_question}
@@ -19,6 +20,8 @@ use Rattle.magnitudes.specs.Magnitudes.{line_most, hn_line_most, ho_line_most}
 use Rattle.centres.specs.Transverse.{TransverseFits}
 use Rattle.centres.specs.Spans.{AcrossFits, Spanned}
 use Rattle.lanes.specs.Entries.{LoadsFit}
+use Rattle.lanes.specs.declared.traffic.Effects.{Effects}
+use Rattle.lanes.proofs.Elements.{wider_loads}
 use Rattle.accepted.proofs.Fits.{sized, across_fits, second_fits, line_reach, line_tenth, dynamic_limits, dynamic, one_lane, profile_is}
 use Rattle.accepted.proofs.Loads.{handed, effects_are, loads_fit, decks_of, factor_is}
 use Rattle.accepted.proofs.values.Goals as goal
@@ -30,9 +33,13 @@ module _ {b : List ℕ} {head : Header} {raising lowering : Sought} (ready : Rea
   loads : (kind : Kind) {x y : ℤ} → EffectRight kind raising x → EffectRight kind lowering y → LoadsFit (line_most kind) across (handed x y)
   loads kind e f = loads_fit (decode b) kind above below e f over fits (line_reach ready) (line_tenth ready)
 
-  asked : {d : ℕ} {x y z w : ℤ} → (1000 ≤ d) × (d ≤ 1300) → EffectRight HN raising x → EffectRight HN lowering y → EffectRight HO raising z → EffectRight HO lowering w →
-      AcrossFits across × (profile_of head.edition ≡ rural → across.lanes ≡ 1) × (1000 ≤ d) × (d ≤ 1300) × LoadsFit hn_line_most across (handed x y) × LoadsFit ho_line_most across (handed z w)
-  asked d e f g h = (fits, λ r. over.lanes ∙ one_lane ready r, d.0, d.1, loads HN e f, loads HO g h)
+  -- HN's fit where HO's are asked for
+  wide : {x y : ℤ} → EffectRight HN raising x → EffectRight HN lowering y → LoadsFit ho_line_most across (handed x y)
+  wide e f = wider_loads (lit≤ tt) (loads HN e f)
+
+  asked : {d : ℕ} {x y : ℤ} {z : Effects} → (1000 ≤ d) × (d ≤ 1300) → EffectRight HN raising x → EffectRight HN lowering y → LoadsFit ho_line_most across z →
+      AcrossFits across × (profile_of head.edition ≡ rural → across.lanes ≡ 1) × (1000 ≤ d) × (d ≤ 1300) × LoadsFit hn_line_most across (handed x y) × LoadsFit ho_line_most across z
+  asked d e f g = (fits, λ r. over.lanes ∙ one_lane ready r, d.0, d.1, loads HN e f, g)
 
 pub effect-requires-3 : goal.effect-requires-3
 effect-requires-3 c = c.requires.sought_right.0.near
@@ -40,11 +47,12 @@ effect-requires-3 c = c.requires.sought_right.0.near
 pub effect-requires-4 : goal.effect-requires-4
 effect-requires-4 c = c.requires.sought_right.1.near
 
+-- the limits of both questions, so that only what is ensured tells their factors apart
 pub factor-dg-requires : goal.factor-dg-requires
-factor-dg-requires c = dynamic_limits c.requires.ready Greatest
+factor-dg-requires c = let r = c.requires.ready in search (dynamic_limits r Greatest, dynamic_limits r Least)
 
 pub factor-dl-requires : goal.factor-dl-requires
-factor-dl-requires c = dynamic_limits c.requires.ready Least
+factor-dl-requires c = let r = c.requires.ready in search (dynamic_limits r Greatest, dynamic_limits r Least)
 
 pub section-near-requires : goal.section-near-requires
 section-near-requires c = sized c.requires.ready
@@ -57,13 +65,19 @@ across_of-across-requires c =
     let a = c.args.head in
     (subst (λ (l : List ℕ). TransverseFits l a.width a.spacing) (sym c.section-near.ensures) (across_fits c.requires.ready), λ h. subst (λ (l : List ℕ). TransverseFits l a.second a.spacing) (sym c.section-far.ensures) (second_fits c.requires.ready h))
 
+-- HN's line effects fit there too, so only what is ensured tells them apart
 pub both-most-requires : goal.both-most-requires
 both-most-requires c =
     let ready = c.requires.ready in
     let range = dynamic ready in
     let e = c.factor-dg.ensures in
     let over = c.across_of-across.ensures.1 (decode c.args.job.now) (decks_of ready c.section-near.ensures c.section-far.ensures) in
-    asked ready c.requires.sought_right.0 c.requires.sought_right.1 c.across_of-across.ensures.0 over (omega (arith, range Greatest, range Least)) c.effect.ensures c.effect-2.ensures c.effect-3.ensures c.effect-4.ensures
+    let above = c.requires.sought_right.0 in
+    let below = c.requires.sought_right.1 in
+    let fits = c.across_of-across.ensures.0 in
+    let hn = wide ready above below fits over c.effect.ensures c.effect-2.ensures in
+    let ho = loads ready above below fits over HO c.effect-3.ensures c.effect-4.ensures in
+    asked ready above below fits over (omega (arith, range Greatest, range Least)) c.effect.ensures c.effect-2.ensures (search (hn, ho))
 
 pub both-lowest-requires : goal.both-lowest-requires
 both-lowest-requires c =
@@ -71,7 +85,12 @@ both-lowest-requires c =
     let range = dynamic ready in
     let e = c.factor-dl.ensures in
     let over = c.across_of-across.ensures.1 (decode c.args.job.now) (decks_of ready c.section-near.ensures c.section-far.ensures) in
-    asked ready c.requires.sought_right.0 c.requires.sought_right.1 c.across_of-across.ensures.0 over (omega (arith, range Greatest, range Least)) c.effect.ensures c.effect-2.ensures c.effect-3.ensures c.effect-4.ensures
+    let above = c.requires.sought_right.0 in
+    let below = c.requires.sought_right.1 in
+    let fits = c.across_of-across.ensures.0 in
+    let hn = wide ready above below fits over c.effect.ensures c.effect-2.ensures in
+    let ho = loads ready above below fits over HO c.effect-3.ensures c.effect-4.ensures in
+    asked ready above below fits over (omega (arith, range Greatest, range Least)) c.effect.ensures c.effect-2.ensures (search (hn, ho))
 
 pub returns : goal.returns
 returns c =
