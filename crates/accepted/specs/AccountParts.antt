@@ -1,6 +1,6 @@
 -- The parts of an account, each right by itself: what the account's own functions ensure. The call's contract is `Answered` (model).
 use Rattle.std.specs.Prelude.{◌≡◌, List, ℕ}
-use Rattle.std.proofs.Math.Option.{none}
+use Rattle.std.specs.Prelude.{None}
 use Rattle.exact.specs.Bounds.{Within}
 use Rattle.exact.specs.declared.Question.{Question}
 use Rattle.exact.specs.declared.Question.TheVariants.{Greatest, Least}
@@ -25,7 +25,7 @@ use Rattle.accepted.specs.declared.TrafficValues.{TrafficValues}
 -- the job is accepted, and the header is its own
 pub record Ready (b : List ℕ) (head : Header) : Type 0 where
   pub own : head ≡ header_of b
-  pub accepted : job_verdict b ≡ none
+  pub accepted : job_verdict b ≡ None
 
 -- a live kind's two values, near enough to go on into the rows
 pub record TrafficFound (job : Job) (live : Live) (t : Traffic) : Type 0 where

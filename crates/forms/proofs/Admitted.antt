@@ -1,7 +1,7 @@
 -- The form of an accepted job is accepted, in its edition.
 use mathlib.Core.Path.{◌≡◌, refl, sym, ◌∙◌, ap, ap₂, subst}
 use mathlib.Core.Bool.{Bool, true, false, not, ◌&&◌, ◌||◌, and-eq-true_iff}
-use mathlib.Core.Option.{Option, none}
+use Rattle.std.specs.Prelude.{Option, None}
 use mathlib.Core.List.{List, [], ◌∷◌}
 use Prim.Native.Nat.{ℕ, zero, suc, ◌+◌, ◌-◌, ◌*◌, ◌/◌, ◌%◌, ◌≤◌, ◌<◌}
 use native.Mathlib.Decide.{dec_le}
@@ -113,21 +113,21 @@ module _ (b : List ℕ) (ok : Listed b) (c : Clear b) where
   unfolding fault1
   named = ((and-eq-true_iff (leb (4 * words head Head) (length b) && eqb (length b % 4) 0) (is (edition_number head.edition) (word_at b 0))).0 (unless_none _ 0 c.c1)).1
 
-  form1 : fault1 f ≡ none
+  form1 : fault1 f ≡ None
   unfolding fault1
   form1 =
       let l = form_length b ok in
-      by_head (λ x. unless (leb (4 * words x Head) (length f) && eqb (length f % 4) 0 && is (edition_number x.edition) (word_at f 0)) 0 ≡ none)
+      by_head (λ x. unless (leb (4 * words x Head) (length f) && eqb (length f % 4) 0 && is (edition_number x.edition) (word_at f 0)) 0 ≡ None)
       (ap (λ (t : Bool). unless t 0)
       (ap₂ ◌&&◌ (ap₂ ◌&&◌ (le-leb (4 * words head' Head) (length f) (omega arith)) (eq-eqb (length f % 4) 0 (omega arith))) (ap (is (edition_number head.edition)) (kept_word b ok 0 (omega (arith, header_long head)) (λ e. omega arith)) ∙ named)))
 
-  header_clear : misfit (format head Head) (section_of b Head) ≡ none
+  header_clear : misfit (format head Head) (section_of b Head) ≡ None
   unfolding fault2
   header_clear = moved_none _ _ (or_none _ _ c.c2).0
 
-  form2 : fault2 f ≡ none
+  form2 : fault2 f ≡ None
   unfolding fault2
-  form2 = by_head (λ x. fault_in f x (Head ∷ []) ≡ none) (ap (λ (o : Option ℕ). or_else (moved 0 o) none) (no_misfit (format head' Head) (section f head' Head) item))
+  form2 = by_head (λ x. fault_in f x (Head ∷ []) ≡ None) (ap (λ (o : Option ℕ). or_else (moved 0 o) None) (no_misfit (format head' Head) (section f head' Head) item))
     where
       now : (q : ℕ) → q < words head Head → word_at (section f head' Head) (0 + q) ≡ word_at f q
       now q h = let z : 0 + q ≡ q = omega arith in ap (word_at (section f head' Head)) z ∙ section_word f head' Head q h ∙ ap (word_at f) z
@@ -146,25 +146,25 @@ module _ (b : List ℕ) (ok : Listed b) (c : Clear b) where
           (ap (between (pos 0) (pos 512)) (now 9 (omega (arith, header_long head)) ∙ count_word b ok) ∙ from_to 0 512 (record_count b) (omega arith) (few_512 b ok))
           (rw n at all))
 
-  form11 : fault11 f ≡ none
+  form11 : fault11 f ≡ None
   unfolding fault11 misfit
   form11 = ap (λ (p : Profile). misfit (1 of width_test p) (section_of f Head)) (form_listed b ok)
 
-  form3 : fault3 f ≡ none
+  form3 : fault3 f ≡ None
   unfolding fault3
-  form3 = by_head (λ x. unless (eqb (length f / 4) (words_due x)) (words_due x) ≡ none) (ap (λ (t : Bool). unless t (words_due head')) (eq-eqb (length f / 4) (words_due head') (let l = form_length b ok in omega arith)))
+  form3 = by_head (λ x. unless (eqb (length f / 4) (words_due x)) (words_due x) ≡ None) (ap (λ (t : Bool). unless t (words_due head')) (eq-eqb (length f / 4) (words_due head') (let l = form_length b ok in omega arith)))
 
   -- ---- 4 and 5
-  form4 : fault4 f ≡ none
+  form4 : fault4 f ≡ None
   unfolding fault4 form_part
-  form4 = by_head (λ x. fault_in f x (Line ∷ Transverse ∷ SecondTransverse ∷ []) ≡ none) (rw (form_part_lem b ok Line, form_part_lem b ok Transverse, form_part_lem b ok SecondTransverse) c.c4)
+  form4 = by_head (λ x. fault_in f x (Line ∷ Transverse ∷ SecondTransverse ∷ []) ≡ None) (rw (form_part_lem b ok Line, form_part_lem b ok Transverse, form_part_lem b ok SecondTransverse) c.c4)
 
-  form5 : fault5 f ≡ none
+  form5 : fault5 f ≡ None
   unfolding fault5 form_part
-  form5 = by_head (λ x. moved (start x Line) (misfit (signs x.pieces) (section f x Line)) ≡ none) (rw (form_part_lem b ok Line) c.c5)
+  form5 = by_head (λ x. moved (start x Line) (misfit (signs x.pieces) (section f x Line)) ≡ None) (rw (form_part_lem b ok Line) c.c5)
 
   -- ---- 6
-  table : (misfit (format head Effects) (section_of b Effects) ≡ none) × (misfit (format head Rows) (section_of b Rows) ≡ none)
+  table : (misfit (format head Effects) (section_of b Effects) ≡ None) × (misfit (format head Rows) (section_of b Rows) ≡ None)
   unfolding fault6
   table = let r = or_none _ _ c.c6 in (moved_none _ _ r.0, moved_none _ _ (or_none _ _ r.1).0)
 
@@ -197,14 +197,14 @@ module _ (b : List ℕ) (ok : Listed b) (c : Clear b) where
         (from_to 0 3000 r.term.factor (omega arith) r.fits.factor, (from_to 0 (record_count b) r.next (omega arith) r.near, tt)),
       )
 
-  effects_fit : misfit (format head' Effects) (form_part b Effects) ≡ none
+  effects_fit : misfit (format head' Effects) (form_part b Effects) ≡ None
   unfolding form_part
   effects_fit = table.0
 
-  form6 : fault6 f ≡ none
+  form6 : fault6 f ≡ None
   unfolding fault6
   form6 =
-      by_head (λ x. fault_in f x (Effects ∷ Rows ∷ Records ∷ []) ≡ none)
+      by_head (λ x. fault_in f x (Effects ∷ Rows ∷ Records ∷ []) ≡ None)
       (rw (form_part_lem b ok Effects, form_part_lem b ok Rows, form_part_lem b ok Records, effects_fit, no_misfit (format head' Rows) (form_part b Rows) rows_fit, no_misfit (format head' Records) records records_fit)
       refl)
 
@@ -247,28 +247,28 @@ module _ (b : List ℕ) (ok : Listed b) (c : Clear b) where
     passes8 = ap₂ (λ (r t : Bool). r || not t) (chain_is returns ∙ no_return) (chain_is names_twice ∙ named_once)
 
   -- rows that all pass a test
-  all_pass : (passes : ℕ → Bool) → ((i : ℕ) → i < head.rows → passes i ≡ true) → row_fault f passes ≡ none
+  all_pass : (passes : ℕ → Bool) → ((i : ℕ) → i < head.rows → passes i ≡ true) → row_fault f passes ≡ None
   all_pass passes h =
       let n : (header_of f).rows ≡ head.rows = ap (λ (x : Header). x.rows) (form_header b ok) in
       ap (moved (start (header_of f) Rows)) (no_misfit (row_tests (header_of f).rows passes) (section_of f Rows) (λ i l. (h i (omega arith), (refl, (refl, (refl, tt))))))
 
-  form7 : fault7 f ≡ none
+  form7 : fault7 f ≡ None
   unfolding fault7
   form7 = all_pass (λ i. not (chain_returns f (i + 1))) passes7
 
-  form8 : fault8 f ≡ none
+  form8 : fault8 f ≡ None
   unfolding fault8
   form8 = all_pass (λ i. chain_returns f (i + 1) || not (chain_names_twice f (i + 1))) passes8
 
-  form_clear : job_verdict f ≡ none
+  form_clear : job_verdict f ≡ None
   unfolding job_verdict job_tests
   form_clear = rw (form1, form2, form11, form3, form4, form5, form6, form7, form8) refl
 
 -- the form is accepted, in the job's edition
-pub form_accepted : (b : List ℕ) → highway_verdict b ≡ none → highway_verdict (form b) ≡ none
+pub form_accepted : (b : List ℕ) → highway_verdict b ≡ None → highway_verdict (form b) ≡ None
 form_accepted b accepted =
     let ok = listed b accepted in
     highway_verdict_lem (form b) (form_listed b ok) ∙ form_clear b ok (clear b (highway_accepted b accepted).1)
 
-pub form_edition : (b : List ℕ) → highway_verdict b ≡ none → (header_of (form b)).edition ≡ (header_of b).edition
+pub form_edition : (b : List ℕ) → highway_verdict b ≡ None → (header_of (form b)).edition ≡ (header_of b).edition
 form_edition b accepted = ap (λ (x : Header). x.edition) (form_header b (listed b accepted))

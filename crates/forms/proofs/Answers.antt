@@ -1,6 +1,6 @@
 -- The answers to a job and to its form: the same in all that is fixed but the records walked, and in every byte of the patch buffer.
 use mathlib.Core.Path.{◌≡◌, refl, sym, ◌∙◌, ap, ap₂, subst}
-use mathlib.Core.Option.{Option, none}
+use Rattle.std.specs.Prelude.{Option, None}
 use mathlib.Core.List.{List, [], ◌∷◌, ◌++◌}
 use Prim.Native.Nat.{ℕ, suc, ◌-◌, ◌≤◌}
 use native.Mathlib.Omega.{arith}
@@ -16,7 +16,8 @@ use Rattle.model.specs.Format.{header_of}
 use Rattle.model.specs.Job.{InfluenceLine, Limit, service, ultimate, Live, normal, overload, HasTraffic, Job}
 use Rattle.model.specs.Lanes.{lanes_of, second_lanes}
 use Rattle.model.specs.Line.{patch_bytes}
-use Rattle.model.specs.Refusals.{Refusal, ◌finds◌, unless, first_refusal, highway_verdict, fault9, verdict}
+use Rattle.model.specs.Refusals.{◌finds◌, unless, first_refusal, highway_verdict, fault9, verdict}
+use Rattle.model.specs.declared.Refusal.{Refusal}
 use Rattle.model.specs.Rows.{Governs}
 use Rattle.model.specs.StandardForm.{form}
 use Rattle.model.specs.declared.Answer.{Answer}
@@ -31,7 +32,7 @@ use Rattle.forms.proofs.Admitted.{form_accepted}
 use Rattle.forms.proofs.Values.{listed_rows, same_but_rows, same_limit, same_line, form_traffic, form_state}
 
 -- a row of a state is one in a job that says the same
-row_of_lem : (b c : List ℕ) (okb : highway_verdict b ≡ none) (okc : highway_verdict c ≡ none) → Same b c → (limit : Limit) (r : ℕ) → RowOf (decode b) limit r → RowOf (decode c) limit r
+row_of_lem : (b c : List ℕ) (okb : highway_verdict b ≡ None) (okc : highway_verdict c ≡ None) → Same b c → (limit : Limit) (r : ℕ) → RowOf (decode b) limit r → RowOf (decode c) limit r
 row_of_lem b c okb okc s limit r w =
     let n : r ≤ (header_of b).rows = subst (λ (k : ℕ). r ≤ k) (listed_rows b (listed b okb).listed) w.last in
     let first = w.first in
@@ -46,11 +47,11 @@ row_of_lem b c okb okc s limit r w =
 abbrev pub but_walked : Fixed → Fixed
 but_walked x = record { refusal = x.refusal; place = x.place; traffic = x.traffic; service = x.service; ultimate = x.ultimate; first = x.first; second = x.second; walked = 0 }
 
-module _ (b : List ℕ) (ok : highway_verdict b ≡ none) where
+module _ (b : List ℕ) (ok : highway_verdict b ≡ None) where
   abbrev f : List ℕ
   f = form b
 
-  okf : highway_verdict f ≡ none
+  okf : highway_verdict f ≡ None
   okf = form_accepted b ok
 
   s : Same b f

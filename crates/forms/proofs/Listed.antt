@@ -1,6 +1,6 @@
 -- An accepted job that lists its rows: its chains name no effect twice, and each of their terms is within its limits.
 use mathlib.Core.Path.{◌≡◌, ap}
-use mathlib.Core.Option.{none}
+use Rattle.std.specs.Prelude.{None}
 use mathlib.Core.List.{List}
 use Prim.Native.Nat.{ℕ, zero, suc, ◌-◌, ◌*◌, ◌≤◌, ◌<◌}
 use native.Mathlib.Omega.{arith}
@@ -56,7 +56,7 @@ terms_fit s e n fits next (suc most) zero h = tt
 terms_fit s e n fits next (suc most) (suc c) h =
     (fits (suc c) (omega arith) h, terms_fit s e n fits next most (next_record s (suc c)) (next (suc c) (omega arith) h))
 
-pub accepted_listed : (b : List ℕ) → job_verdict b ≡ none → profile_of (header_of b).edition ≡ highway → Listed b
+pub accepted_listed : (b : List ℕ) → job_verdict b ≡ None → profile_of (header_of b).edition ≡ highway → Listed b
 accepted_listed b accepted h =
     let c = clear b accepted in
     let head = header_fits b c.c2 in

@@ -3,7 +3,7 @@ use Rattle.std.specs.Prelude.{if◌then◌else◌}
 use mathlib.Core.Path.{◌≡◌, refl, sym, ◌∙◌, ap, subst}
 use mathlib.Core.Bool.{Bool, true, ◌||◌, false≢true}
 use mathlib.Core.Logic.{◌↔◌}
-use mathlib.Core.Option.{none}
+use Rattle.std.specs.Prelude.{None}
 use mathlib.Core.List.{List, [], ◌∷◌}
 use Prim.Native.Nat.{ℕ, zero, suc, ◌+◌, ◌≤◌, ◌<◌}
 use native.Mathlib.Omega.{arith}
@@ -48,7 +48,7 @@ rising_named f e (suc n) d h =
 names_rising : (f : ℕ → ℕ) (e n d : ℕ) → e ≤ d → d < e + n → ¬ (f d ≡ 0) → names (rising f e n) d ≡ true
 names_rising f e n d l m h = named (rising f e n) d (λ z. h (sym (rising_factor f e n d l m) ∙ z))
 
-module _ (b : List ℕ) (accepted : highway_verdict b ≡ none) (i : ℕ) (h : i < (header_of b).rows) where
+module _ (b : List ℕ) (accepted : highway_verdict b ≡ None) (i : ℕ) (h : i < (header_of b).rows) where
   abbrev f : List ℕ
   f = form b
 

@@ -1,7 +1,7 @@
 -- Two accepted jobs agree exactly when their standard forms are equal bytes, and the form of the form is the form.
 use mathlib.Core.Path.{◌≡◌, refl, sym, ◌∙◌, ap, ap₂, subst}
 use mathlib.Core.Logic.{◌↔◌}
-use mathlib.Core.Option.{none}
+use Rattle.std.specs.Prelude.{None}
 use mathlib.Core.List.{List, ◌++◌}
 use Prim.Native.Nat.{ℕ, suc, ◌≤◌, ◌<◌}
 use native.Mathlib.Nat.{le_refl}
@@ -88,10 +88,10 @@ module _ (b c : List ℕ) (s : Same b c) where
   same_form = rw (same_part Head, same_part Line, same_part Transverse, same_part SecondTransverse, same_part Effects, same_part Rows, same_part Records) refl
 
 -- ---- for accepted jobs
-pub listed : (b : List ℕ) → highway_verdict b ≡ none → Listed b
+pub listed : (b : List ℕ) → highway_verdict b ≡ None → Listed b
 listed b ok = let a = highway_accepted b ok in accepted_listed b a.1 a.0
 
-module _ (b : List ℕ) (accepted : highway_verdict b ≡ none) where
+module _ (b : List ℕ) (accepted : highway_verdict b ≡ None) where
   pub says : Same b (form b)
   says = form_same b (listed b accepted)
 
@@ -104,7 +104,7 @@ module _ (b : List ℕ) (accepted : highway_verdict b ≡ none) where
   form_again = sym (same_form b (form b) says)
 
 -- two jobs agree exactly when their standard forms are equal bytes
-pub form_exact : (b c : List ℕ) → AreBytes b → AreBytes c → highway_verdict b ≡ none → highway_verdict c ≡ none → Agree b c ↔ (form b ≡ form c)
+pub form_exact : (b c : List ℕ) → AreBytes b → AreBytes c → highway_verdict b ≡ None → highway_verdict c ≡ None → Agree b c ↔ (form b ≡ form c)
 form_exact b c bb bc ok ok' = (
   λ a. same_form b c (agree_same b c (listed b ok) (listed c ok') bb bc a),
   λ e. same_agree (same_trans (says b ok) (subst (λ (f : List ℕ). Same f c) (sym e) (same_sym (says c ok')))),

@@ -3,7 +3,7 @@ use Rattle.std.specs.Prelude.{if◌then◌else◌}
 use mathlib.Core.Path.{◌≡◌, refl, sym, ◌∙◌, ap, ap₂, subst}
 use mathlib.Core.Bool.{Bool}
 use mathlib.Core.Logic.{◌↔◌}
-use mathlib.Core.Option.{none}
+use Rattle.std.specs.Prelude.{None}
 use mathlib.Core.List.{List}
 use Prim.Native.Nat.{ℕ, zero, suc, ◌+◌, ◌-◌, ◌*◌, ◌≤◌, ◌<◌}
 use native.Mathlib.Omega.{arith}
@@ -114,7 +114,7 @@ pub listed_rows : (b : List ℕ) → profile_of (header_of b).edition ≡ highwa
 unfolding decode
 listed_rows b h = ap (λ (p : Profile). row_count p (header_of b).rows) h
 
-module _ (b c : List ℕ) (okb : highway_verdict b ≡ none) (okc : highway_verdict c ≡ none) (s : Same b c) where
+module _ (b c : List ℕ) (okb : highway_verdict b ≡ None) (okc : highway_verdict c ≡ None) (s : Same b c) where
   abbrev head : Header
   head = header_of b
 
@@ -246,11 +246,11 @@ module _ (b c : List ℕ) (okb : highway_verdict b ≡ none) (okc : highway_verd
       inside {i} h = subst (λ (n : ℕ). i < n) (listed_rows b (listed b okb).listed) h
 
 -- ---- a job and its form
-module _ (b : List ℕ) (accepted : highway_verdict b ≡ none) where
+module _ (b : List ℕ) (accepted : highway_verdict b ≡ None) where
   abbrev f : List ℕ
   f = form b
 
-  ok : highway_verdict f ≡ none
+  ok : highway_verdict f ≡ None
   ok = form_accepted b accepted
 
   -- the four traffic values

@@ -1,6 +1,6 @@
 -- What a host may conclude from the result of a call.
 use mathlib.Core.Path.{◌≡◌, refl, sym, ◌∙◌, ap}
-use mathlib.Core.Option.{none}
+use Rattle.std.specs.Prelude.{None}
 use mathlib.Core.List.{List, ◌++◌}
 use Prim.Native.Nat.{ℕ, ◌/◌, ◌%◌, ◌≤◌}
 use native.Mathlib.Omega.{arith}
@@ -21,7 +21,7 @@ taken_apart {b} {before} (refused r v u p) = let s = number_small b (length befo
 taken_apart (accepted v r) = omega (arith, r.refusal, r.place)
 
 -- 0 is acceptance, and only that
-pub zero_accepts : {job patch account p a : List ℕ} → Hosted job patch account 0 p a → (account_size ≤ length account) × (verdict job (length patch) ≡ none)
+pub zero_accepts : {job patch account p a : List ℕ} → Hosted job patch account 0 p a → (account_size ≤ length account) × (verdict job (length patch) ≡ None)
 zero_accepts (short l e p a) = absurd (omega arith)
 zero_accepts {job} {patch} (answered l x (refused r v u p) e a k) = let s = number_small job (length patch) v in absurd (omega (arith, e, ap (λ (y : Answer). y.refusal) u))
 zero_accepts (answered l x (accepted v r) e a k) = (l, v)

@@ -2,7 +2,7 @@
 use Rattle.std.specs.Prelude.{if◌then◌else◌}
 use mathlib.Core.Path.{◌≡◌, refl, ◌∙◌, ap}
 use mathlib.Core.Bool.{Bool, true, false, ◌&&◌}
-use mathlib.Core.Option.{some}
+use Rattle.std.specs.Prelude.{Some}
 use mathlib.Core.List.{List, ◌∷◌}
 use Prim.Native.Nat.{ℕ, ◌*◌, ◌%◌, ◌≤◌}
 use lib.Dec.{eqb, leb}
@@ -30,15 +30,15 @@ module _ (b : List ℕ) where
   abbrev pub named : Bool
   named = is (edition_number (header_of b).edition) (word_at b 0)
 
-  pub too_short : long ≡ false → fault1 b ≡ some 0
+  pub too_short : long ≡ false → fault1 b ≡ Some 0
   unfolding fault1
   too_short e = ap (λ (t : Bool). unless ((t && whole) && named) 0) e
 
-  pub not_whole : whole ≡ false → fault1 b ≡ some 0
+  pub not_whole : whole ≡ false → fault1 b ≡ Some 0
   unfolding fault1
   not_whole e = ap (λ (t : Bool). unless ((long && t) && named) 0) e ∙ go long
     where
-      go : (t : Bool) → unless ((t && false) && named) 0 ≡ some 0
+      go : (t : Bool) → unless ((t && false) && named) 0 ≡ Some 0
       go true = refl
       go false = refl
 

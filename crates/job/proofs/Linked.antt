@@ -2,7 +2,7 @@
 use Rattle.std.specs.Prelude.{if◌then◌else◌}
 use mathlib.Core.Path.{◌≡◌, sym, ◌∙◌, ap, ap₂, subst}
 use mathlib.Core.Bool.{Bool, false, not, ◌||◌}
-use mathlib.Core.Option.{none, some}
+use Rattle.std.specs.Prelude.{None, Some}
 use mathlib.Core.List.{List}
 use Prim.Native.Nat.{ℕ, ◌+◌, ◌-◌, ◌*◌, ◌≤◌, ◌<◌}
 use native.Mathlib.Omega.{arith}
@@ -46,10 +46,10 @@ first_is b i e g =
 -- tests that pass the same rows find the same
 rows_same : (b : List ℕ) {p q : ℕ → Bool} → ((i : ℕ) → i < (header_of b).rows → p i ≡ q i) → row_fault b p ≡ row_fault b q
 unfolding misfit
-rows_same b h = ap (moved (start (header_of b) Rows)) (answer_same 0 (header_of b).rows _ _ (λ i _ l. ap (λ (t : Bool). moved (size Rows * i) (if t then none else some 0)) (h i (omega arith))))
+rows_same b h = ap (moved (start (header_of b) Rows)) (answer_same 0 (header_of b).rows _ _ (λ i _ l. ap (λ (t : Bool). moved (size Rows * i) (if t then None else Some 0)) (h i (omega arith))))
 
 -- where no chain comes back, a test for effects named twice alone finds what refusal 8 finds
-pub repeats_alone : (b : List ℕ) → fault7 b ≡ none → fault8 b ≡ row_fault b (chain_passes Repeat b)
+pub repeats_alone : (b : List ℕ) → fault7 b ≡ None → fault8 b ≡ row_fault b (chain_passes Repeat b)
 unfolding fault8
 repeats_alone b c7 = rows_same b (λ i h. ap (λ (t : Bool). t || not (chain_names_twice b (i + 1))) (no_return b c7 i h))
 
@@ -61,7 +61,7 @@ module _ (b : List ℕ) {head : Header} (z : Sized b head) where
   records_long : length (section_of b Records) ≡ bytes Records * (header_of b).records
   records_long = let e = part_length z Records in omega arith
 
-  module _ (clear : fault6 b ≡ none) where
+  module _ (clear : fault6 b ≡ None) where
     next_most : (c : ℕ) → 1 ≤ c → c ≤ (header_of b).records → next_record (section_of b Records) c ≤ (header_of b).records
     next_most c l h = (record_fits b clear (c - 1) (omega arith)).next.most
 
@@ -82,7 +82,7 @@ module _ (b : List ℕ) {head : Header} (z : Sized b head) where
         subst (λ (k : ℕ). count_at (section_of b Rows) k ≤ (header_of b).records) e (row_fits b clear i h).first.most
 
     -- where no chain names an effect twice, none comes back
-    pub none_returns : row_fault b (chain_passes Repeat b) ≡ none → fault7 b ≡ none
+    pub none_returns : row_fault b (chain_passes Repeat b) ≡ None → fault7 b ≡ None
     unfolding fault7
     none_returns e = rows_same b (λ i h. ap not (names_none _ _ _ (record { first = first_most i h; next = next_most }) (once i h) ∙ sym (once i h))) ∙ e
       where

@@ -1,6 +1,6 @@
 // The first row whose chain comes back to a record, or names an effect twice.
 ghost use Rattle.std.specs.Prelude.{◌≡◌, ◌*◌, ◌≤◌, length};
-ghost use Rattle.std.proofs.Math.Option.{none};
+ghost use Rattle.std.specs.Prelude.{None};
 ghost use Rattle.model.specs.Refusals.{fault6};
 ghost use Rattle.model.specs.Format.{bytes};
 ghost use Rattle.model.specs.declared.Part.TheVariants.{Records};
@@ -32,7 +32,7 @@ fn is_defective(records: &[u8], first: usize, count: usize, defect: Defect) -> b
 
 // The first word of the first row whose chain has it, from the first row's on.
 pub(crate) fn first_row(s: &[u8], head: Header, defect: Defect) -> Fault
-    requires { Sized s.now head × (fault6 s.now ≡ none) }
+    requires { Sized s.now head × (fault6 s.now ≡ None) }
     ensures { place_of result ≡ first_defective defect s.now }
 {
     let rows = sections::section(s, head, Part::Rows);

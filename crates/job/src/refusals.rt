@@ -1,6 +1,6 @@
 // The refusals of a job, each the lowest place at fault, and the verdict.
 ghost use Rattle.std.specs.Prelude.{◌≡◌, ◌&&◌, List, ℕ, ◌*◌, ◌≤◌, ◌<◌, leb, length};
-ghost use Rattle.std.proofs.Math.Option.{none, some};
+ghost use Rattle.std.specs.Prelude.{None, Some};
 ghost use Rattle.exact.specs.Choice.{or_else};
 ghost use Rattle.words.specs.Words.{word_at};
 ghost use Rattle.words.specs.Fields.{moved};
@@ -95,7 +95,7 @@ fn count(s: &[u8], head: Header) -> Finding
 
 // A place of a part as a place of the job.
 fn in_job(head: Header, part: Part, own: Fault) -> Finding
-    requires { Counted head × ((p : ℕ) → place_of own ≡ some p → p < words head part) }
+    requires { Counted head × ((p : ℕ) → place_of own ≡ Some p → p < words head part) }
     ensures { finding_of result ≡ moved (start head part) (place_of own) }
 {
     match own {
@@ -207,7 +207,7 @@ fn number(step: u32) -> u32
 
 // The first row whose chain has a defect.
 fn defective(s: &[u8], head: Header, defect: Defect) -> Finding
-    requires { Sized s.now head × (fault6 s.now ≡ none) }
+    requires { Sized s.now head × (fault6 s.now ≡ None) }
     ensures { finding_of result ≡ row_fault s.now (chain_passes defect s.now) }
 {
     in_job(head, Part::Rows, defects::first_row(s, head, defect))

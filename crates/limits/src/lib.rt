@@ -2,7 +2,7 @@
 #![tactic(auto)]
 
 ghost use Rattle.std.specs.Prelude.{◌≡◌, ℕ, ◌+◌, ◌*◌, ◌≤◌, ◌<◌, pos, neg_ℤ, ltb, length, if◌then◌else◌};
-ghost use Rattle.std.proofs.Math.Option.{some};
+ghost use Rattle.std.specs.Prelude.{Some};
 ghost use Rattle.exact.specs.Bounds.{Within};
 ghost use Rattle.exact.specs.Choice.{between};
 ghost use Rattle.words.specs.Words.{word_at, wide};
@@ -47,7 +47,7 @@ fn within(s: &[u8], p: usize, m: i64) -> bool
 
 // The field of an item at fault: field j unless its word is admitted, else a later one.
 pub fn field(j: usize, admitted: bool, later: Fault) -> Fault
-    ensures { place_of result ≡ (if admitted then place_of later else some j) }
+    ensures { place_of result ≡ (if admitted then place_of later else Some j) }
 {
     if admitted {
         return later;

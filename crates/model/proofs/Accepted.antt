@@ -1,7 +1,7 @@
 -- What an accepted job is, decoded.
 use Rattle.std.specs.Prelude.{if◌then◌else◌}
 use mathlib.Core.Path.{◌≡◌, refl, ◌∙◌, ap}
-use mathlib.Core.Option.{none}
+use Rattle.std.specs.Prelude.{None}
 use mathlib.Core.List.{List}
 use Prim.Native.Nat.{ℕ, ◌<◌}
 use native.Mathlib.Omega.{arith}
@@ -22,7 +22,7 @@ pub one_spacing : (b : List ℕ) → (decode b).second.g ≡ (decode b).deck.g
 unfolding decode
 one_spacing b = refl
 
-module _ (b : List ℕ) (accepted : job_verdict b ≡ none) where
+module _ (b : List ℕ) (accepted : job_verdict b ≡ None) where
   -- its pieces have one sign each
   pub accepted_signed : OneSigned (decode b).line
   accepted_signed = one_signed b (clear b accepted).c5

@@ -10,7 +10,7 @@ use native.Mathlib.Omega.{arith}
 use lib.IntN.{ℤ, pos, nat_abs, ◌+ℤ◌, ◌*ℤ◌}
 use lib.Dec.{ltb}
 use lib.ListN.{get_or, get_or-append}
-use Rattle.exact.specs.Questions.{rounded}
+use Rattle.exact.specs.Questions.{for_question, rounded}
 use Rattle.exact.specs.Ranges.{count_to}
 use Rattle.exact.specs.declared.Question.{Question}
 use Rattle.exact.proofs.Exact.{◌⊕◌, ◌⊗◌, lit, ◌≐◌, solve}
@@ -21,7 +21,7 @@ use Rattle.model.specs.Line.{Kind, HN, HO, axle, best_pair, patch_byte, patch_by
 use Rattle.model.specs.Lanes.{bit, lanes, own_lanes, other_lanes, unit, in_units, ordinate_in, CentreFits}
 use Rattle.model.specs.Traffic.{lane_effect, sum_on, is_additional, best_sum, effect_of, traffic_value}
 use Rattle.model.specs.Arrangements.{Element, Load, unloaded, element, Arrangement, element_line, element_effect, carries, load_effect, lanes_under, effect_under, sum_of, arranged, KindsFit, FactorsFit, Lawful}
-use Rattle.model.specs.Answered.{lane_at, factor_at, position_of, reported_element, reported_load, reported, reported_effect, PositionRight, TrafficRight, traffic_in, extreme_of, counted_traffic}
+use Rattle.model.specs.Answered.{lane_at, factor_at, position_of, reported_element, reported_load, reported, reported_effect, PositionRight, TrafficRight, traffic_in, counted_traffic}
 use Rattle.model.specs.Placements.{BestCentre, EntryRight, entry_is, placed_lanes, placed_under, placed_sum}
 use Rattle.model.specs.declared.Sense.{Sense}
 use Rattle.model.specs.declared.Entry.{Entry}
@@ -201,7 +201,7 @@ shows {q} {job} {patch} {a} {live} {x} r i = elim (dec_le (lanes job) i) [
 -- ---- a state
 -- the traffic counted for a row is its value, where the reported placement gives it
 pub counted_given : (q : Question) (job : Job) (patch : List ℕ) (a : Account) (unladen : Bool) (live : Live) →
-    (HasTraffic live → reported_effect q job patch a live (extreme_of q (traffic_in a live)).placement ≡ traffic_value q job live) → counted_traffic q job patch a unladen live ≡ (if unladen then pos 0 else traffic_value q job live)
+    (HasTraffic live → reported_effect q job patch a live (for_question q (traffic_in a live)).placement ≡ traffic_value q job live) → counted_traffic q job patch a unladen live ≡ (if unladen then pos 0 else traffic_value q job live)
 counted_given q job patch a true live given = refl
 counted_given q job patch a false no_traffic given = sym (no_traffic_lem q job)
 counted_given q job patch a false normal given = given tt

@@ -1,7 +1,7 @@
 -- Where word 0 names no later edition, a job is judged and decoded as document 01 has it: here is all that asks the edition, at edition 1.
 use mathlib.Core.Path.{◌≡◌, refl}
 use mathlib.Core.Bool.{false, ◌&&◌}
-use mathlib.Core.Option.{none}
+use Rattle.std.specs.Prelude.{None}
 use mathlib.Core.List.{List, [], ◌∷◌}
 use Prim.Native.Nat.{ℕ, ◌+◌, ◌-◌, ◌*◌, ◌%◌}
 use native.Mathlib.Nat.{add-zero, mul-one}
@@ -44,7 +44,7 @@ module _ (b : List ℕ) (not-2 : is 2 (word_at b 0) ≡ false) (not-3 : is 3 (wo
   first_effects = rw is_first refl
 
   -- 11: never, for a highway's width has no band
-  pub first_width : fault11 b ≡ none
+  pub first_width : fault11 b ≡ None
   unfolding fault11 misfit
   first_width = rw is_first refl
 

@@ -3,7 +3,7 @@ use Rattle.std.specs.Prelude.{if◌then◌else◌}
 use mathlib.Core.Path.{◌≡◌, refl, ◌∙◌, ap, subst}
 use mathlib.Core.Logic.{inl, inr}
 use mathlib.Core.Bool.{true, false, and-eq-true_iff}
-use mathlib.Core.Option.{none}
+use Rattle.std.specs.Prelude.{None}
 use mathlib.Core.List.{List, [], ◌∷◌}
 use Prim.Native.Nat.{ℕ, ◌+◌, ◌*◌, ◌/◌, ◌≤◌, ◌<◌}
 use native.Mathlib.Omega.{arith}
@@ -95,7 +95,7 @@ early : (b : List ℕ) {q : ℕ} → q < 10 → q < words (header_of b) Head
 early b h = omega (arith, header_long (header_of b))
 
 -- a job without fault 2 has a header within its limits
-pub header_fits : (b : List ℕ) → fault2 b ≡ none → HeaderFits b
+pub header_fits : (b : List ℕ) → fault2 b ≡ None → HeaderFits b
 unfolding fault2
 header_fits b e =
     let l = one_of_lem (1 ∷ 2 ∷ 5 ∷ 10 ∷ 25 ∷ 50 ∷ []) (item_from (section_of b Head) 0 0) (word_at b 1) (rw (word 1 (omega arith)) at (field 1 (omega arith))) in
@@ -128,7 +128,7 @@ header_fits b e =
     Admitted q = get_or (format (header_of b) Head).fields q free (item_from (section_of b Head) 0 0) (word_at (section_of b Head) (0 + q)) ≡ true
 
     admitted : (q : ℕ) → q < words (header_of b) Head → Admitted q
-    admitted q h = rw (mul-zero (length (format (header_of b) Head).fields)) at (fits (format (header_of b) Head) (section_of b Head) (moved_none 0 _ (or_none _ none e).0) 0 q (omega arith) (omega arith))
+    admitted q h = rw (mul-zero (length (format (header_of b) Head).fields)) at (fits (format (header_of b) Head) (section_of b Head) (moved_none 0 _ (or_none _ None e).0) 0 q (omega arith) (omega arith))
 
     field : (q : ℕ) → q < 10 → Admitted q
     field q h = admitted q (early b h)
@@ -211,14 +211,14 @@ header_fits b e =
     product {x} {y} {m} {n} e f h = omega (arith, ≤→ℕ (subst (λ (z : ℤ). (pos m *ℤ z) ≤ℤ pos 1000) f (subst (λ (z : ℤ). (z *ℤ y) ≤ℤ pos 1000) e h)))
 
 -- a rural bridge without fault 11 is at most 430 cm wide
-pub rural_width : (b : List ℕ) → fault11 b ≡ none → profile_of (header_of b).edition ≡ rural → count_at b 4 ≤ 430
+pub rural_width : (b : List ℕ) → fault11 b ≡ None → profile_of (header_of b).edition ≡ rural → count_at b 4 ≤ 430
 unfolding fault11
 rural_width b e r = rw (head_word b 4 (early b (omega arith))) at (go (profile_of (header_of b).edition) r e)
   where
     s : List ℕ
     s = section_of b Head
 
-    go : (p : Profile) → p ≡ rural → misfit (1 of width_test p) s ≡ none → up (word_at s 4) ≤ 430
+    go : (p : Profile) → p ≡ rural → misfit (1 of width_test p) s ≡ None → up (word_at s 4) ≤ 430
     go highway f e = absurd (not_rural f)
     go rural f e =
         by_test (is 3 (word_at s 10)) (λ t. (if t then range 370 430 else range 300 370) (item_from s 0 0) (word_at s 4) ≡ true → up (word_at s 4) ≤ 430)

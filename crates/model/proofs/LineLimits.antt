@@ -1,7 +1,7 @@
 -- Refusals 4 and 5: a job without them has ordinates within their limits, and pieces of one sign.
 use mathlib.Core.Path.{◌≡◌, refl}
 use mathlib.Core.Bool.{Bool, true, false, ◌&&◌, ◌||◌, true≢false}
-use mathlib.Core.Option.{none}
+use Rattle.std.specs.Prelude.{None}
 use mathlib.Core.List.{List}
 use Prim.Native.Nat.{ℕ, ◌+◌, ◌*◌, ◌/◌, ◌%◌, ◌≤◌, ◌<◌}
 use native.Mathlib.Decide.{dec_le}
@@ -27,7 +27,7 @@ use Rattle.words.proofs.Fits.{or_none, moved_none, fits, first_fits}
 
 -- ---- 4: ordinates
 -- a line section without a place at fault has ordinates from -m to m
-pub ordinates_within : (m : ℕ) (s : List ℕ) (n : ℕ) → misfit (line_layout m n) s ≡ none → (k : ℕ) → k < size Line * n → Within m (word_at s k)
+pub ordinates_within : (m : ℕ) (s : List ℕ) (n : ℕ) → misfit (line_layout m n) s ≡ None → (k : ℕ) → k < size Line * n → Within m (word_at s k)
 ordinates_within m s n clear k h =
     let i = k / 2 in
     elim (dec_le (k % 2) 0) [
@@ -36,7 +36,7 @@ ordinates_within m s n clear k h =
     ]
 
 -- a transverse section without one has ordinates from -1000 to 1000 thousandths
-across_within : (s : List ℕ) (w g : ℕ) → misfit (across_layout w g) s ≡ none → (k : ℕ) → k < (across_layout w g).items → Within 1000 (word_at s k)
+across_within : (s : List ℕ) (w g : ℕ) → misfit (across_layout w g) s ≡ None → (k : ℕ) → k < (across_layout w g).items → Within 1000 (word_at s k)
 across_within s w g clear k h =
     let e : 1 * k ≡ k = omega arith in
     rw e at (between_within 1000 (word_at s (1 * k)) (first_fits (across_layout w g) s clear k h (omega arith)))
@@ -48,11 +48,11 @@ limit_most Second = omega arith
 limit_most Third = omega arith
 limit_most Fourth = omega arith
 
-module _ (b : List ℕ) (clear : fault4 b ≡ none) where
+module _ (b : List ℕ) (clear : fault4 b ≡ None) where
   -- neither the line nor a transverse section has a place at fault
-  ordinates : (misfit (format (header_of b) Line) (section_of b Line) ≡ none) × (misfit (format (header_of b) Transverse) (section_of b Transverse) ≡ none) × (misfit (format (header_of b) SecondTransverse) (section_of b SecondTransverse) ≡ none)
+  ordinates : (misfit (format (header_of b) Line) (section_of b Line) ≡ None) × (misfit (format (header_of b) Transverse) (section_of b Transverse) ≡ None) × (misfit (format (header_of b) SecondTransverse) (section_of b SecondTransverse) ≡ None)
   unfolding fault4
-  ordinates = let r = or_none _ _ clear in let t = or_none _ _ r.1 in (moved_none _ _ r.0, moved_none _ _ t.0, moved_none _ _ (or_none _ none t.1).0)
+  ordinates = let r = or_none _ _ clear in let t = or_none _ _ r.1 in (moved_none _ _ r.0, moved_none _ _ t.0, moved_none _ _ (or_none _ None t.1).0)
 
   -- the line's ordinates are within its edition's limit
   pub line_limited : (k : ℕ) → k < words (header_of b) Line → Within (ordinate_limit (header_of b).edition) (word_at (section_of b Line) k)
@@ -91,10 +91,10 @@ not_crossing x y = go (lt_z (pos 0) x) (lt_z y (pos 0)) (lt_z x (pos 0)) (lt_z (
     go false b false false ea eb ec ed e = below (lt_z_false (pos 0) x ea) (lt_z_false (pos 0) y ed)
 
 -- a section without a crossing piece is of a line whose pieces have one sign
-pub section_signed : (s : List ℕ) (h n : ℕ) → misfit (signs n) s ≡ none → OneSigned (influence_line s h n)
+pub section_signed : (s : List ℕ) (h n : ℕ) → misfit (signs n) s ≡ None → OneSigned (influence_line s h n)
 section_signed s h n e i l = not_crossing _ _ (not-true _ (first_fits (signs n) s e i l (omega arith)))
 
 -- so has a job without fault 5
-pub one_signed : (b : List ℕ) → fault5 b ≡ none → OneSigned (decode b).line
+pub one_signed : (b : List ℕ) → fault5 b ≡ None → OneSigned (decode b).line
 unfolding decode fault5
 one_signed b e = section_signed (section_of b Line) (header_of b).h (header_of b).pieces (moved_none _ _ e)

@@ -3,7 +3,7 @@ use Rattle.std.specs.Prelude.{if◌then◌else◌}
 use mathlib.Core.Path.{◌≡◌, refl, ◌∙◌, ap, ap₂, subst}
 use mathlib.Core.Logic.{inl, inr}
 use mathlib.Core.Bool.{Bool, true, false}
-use mathlib.Core.Option.{none}
+use Rattle.std.specs.Prelude.{None}
 use mathlib.Core.List.{List}
 use Prim.Native.Nat.{ℕ, zero, suc, ◌+◌, ◌-◌, ◌*◌, ◌^◌, ◌≤◌, ◌<◌}
 use native.Mathlib.Nat.{div-one, zero-div, mul-pos}
@@ -207,5 +207,5 @@ traffic_zero q job live g =
     (multiple_zero q 3 _ (multiple_zero q (job.dynamic q) x (sum_zero_bound q job live))))
 
 -- so of an accepted job no greatest traffic value is below 0, and no least above
-pub zero_no_better : (b : List ℕ) → job_verdict b ≡ none → (q : Question) (live : Live) → NoBetter q (pos 0) (traffic_value q (decode b) live)
+pub zero_no_better : (b : List ℕ) → job_verdict b ≡ None → (q : Question) (live : Live) → NoBetter q (pos 0) (traffic_value q (decode b) live)
 zero_no_better b e q live = traffic_zero q (decode b) live (accepted_spaced b e).0

@@ -1,7 +1,7 @@
 -- Standard forms worked out: a job with a zero factor, a shared tail, a record on no chain and a row without any, and one whose form is longer.
 use mathlib.Core.Path.{◌≡◌, refl, ap}
 use mathlib.Core.List.{List, [], ◌∷◌, ◌++◌}
-use mathlib.Core.Option.{none}
+use Rattle.std.specs.Prelude.{None}
 use Prim.Native.Nat.{ℕ, ◌+◌}
 use native.Mathlib.Omega.{arith}
 use lib.ListN.{length}
@@ -38,7 +38,7 @@ unfolding form form_part section terms_of decode chain_from word_at signed32
 form_worked = refl
 
 -- it is a job
-pub respelled_accepted : highway_verdict respelled ≡ none
+pub respelled_accepted : highway_verdict respelled ≡ None
 unfolding highway_verdict job_tests fault1 fault2 fault11 fault3 fault4 fault5 fault6 fault7 fault8 misfit section returns names_twice repeats walk word_at signed32
 respelled_accepted = refl
 
@@ -52,6 +52,6 @@ abbrev sharing : List ℕ
 sharing = job_of 1 (1 ∷ 0 ∷ 0 ∷ 1 ∷ 2 ∷ 0 ∷ 0 ∷ 1 ∷ 1 ∷ 0 ∷ 0 ∷ 1 ∷ 1 ∷ 110 ∷ 0 ∷ [])
 
 -- a job whose form is longer: it has a record for each row
-pub form_longer : (highway_verdict sharing ≡ none) × (length (form sharing) ≡ length sharing + 24)
+pub form_longer : (highway_verdict sharing ≡ None) × (length (form sharing) ≡ length sharing + 24)
 unfolding highway_verdict job_tests fault1 fault2 fault11 fault3 fault4 fault5 fault6 fault7 fault8 misfit returns names_twice repeats walk form form_part section terms_of decode chain_from word_at signed32
 form_longer = (refl, refl)

@@ -2,7 +2,8 @@
 use Rattle.std.specs.Prelude.{if◌then◌else◌}
 use mathlib.Core.Path.{◌≡◌, refl, sym, ◌∙◌, ap, ap₂, subst}
 use mathlib.Core.Bool.{Bool, true, false, ◌&&◌, false≢true, true≢false}
-use mathlib.Core.Option.{Option, none, some, some-injective, some-ne-none}
+use Rattle.std.specs.Prelude.{Option, None, Some}
+use Rattle.std.proofs.lemmas.Option.{none-some, same_Some}
 use mathlib.Core.List.{List, [], ◌∷◌}
 use Prim.Native.Nat.{ℕ, zero, suc, ◌≤◌}
 use native.Mathlib.Decide.{dec_le}
@@ -95,8 +96,8 @@ module _ (q : Question) (effect : ℕ → Effect) where
 -- ---- a state
 -- x does not beat the governing value, and there is one
 abbrev Bounds : Question → ℤ → Option Governs → Type 0
-Bounds q x none = ⊥
-Bounds q x (some g) = NoBetter q x g.value
+Bounds q x None = ⊥
+Bounds q x (Some g) = NoBetter q x g.value
 
 is_itself : (l : Limit) → is_of l l ≡ true
 is_itself service = refl
@@ -110,19 +111,19 @@ is_same ultimate ultimate e = refl
 
 -- the better of a state's rows so far and a later one bounds both
 later_bounds : (q : Question) (sofar : Option Governs) (g : Governs) → Bounds q g.value (later_if_better q sofar g) × ((x : ℤ) → Bounds q x sofar → Bounds q x (later_if_better q sofar g))
-later_bounds q none g = (no_better_refl q g.value, λ x h. absurd h)
-later_bounds q (some s) g =
-    by_test (beats q g.value s.value) (λ t. let r = if t then some g else some s in Bounds q g.value r × ((x : ℤ) → Bounds q x (some s) → Bounds q x r))
+later_bounds q None g = (no_better_refl q g.value, λ x h. absurd h)
+later_bounds q (Some s) g =
+    by_test (beats q g.value s.value) (λ t. let r = if t then Some g else Some s in Bounds q g.value r × ((x : ℤ) → Bounds q x (Some s) → Bounds q x r))
     (λ e. (no_better_refl q g.value, λ x h. no_better_trans q x s.value g.value h (beats_yes q g.value s.value e).0))
     (λ e. ((beats_no q g.value s.value e).0, λ x h. h))
 
 -- and is one of them
-later_one : (q : Question) (P : Governs → Type 0) (sofar : Option Governs) (g : Governs) → ((s : Governs) → sofar ≡ some s → P s) → P g → (r : Governs) → later_if_better q sofar g ≡ some r → P r
-later_one q P none g before now r e = subst P (some-injective _ _ e) now
-later_one q P (some s) g before now r e =
-    by_test (beats q g.value s.value) (λ t. (if t then some g else some s) ≡ some r → P r)
-    (λ _ e. subst P (some-injective _ _ e) now)
-    (λ _ e. subst P (some-injective _ _ e) (before s refl)) e
+later_one : (q : Question) (P : Governs → Type 0) (sofar : Option Governs) (g : Governs) → ((s : Governs) → sofar ≡ Some s → P s) → P g → (r : Governs) → later_if_better q sofar g ≡ Some r → P r
+later_one q P None g before now r e = subst P (same_Some _ _ e) now
+later_one q P (Some s) g before now r e =
+    by_test (beats q g.value s.value) (λ t. (if t then Some g else Some s) ≡ Some r → P r)
+    (λ _ e. subst P (same_Some _ _ e) now)
+    (λ _ e. subst P (same_Some _ _ e) (before s refl)) e
 
 -- a row of the state, with its value
 record StateRow (row : ℕ → Row) (value : ℕ → ℤ) (limit : Limit) (n : ℕ) (g : Governs) : Type 0 where
@@ -155,27 +156,27 @@ module _ (q : Question) (row : ℕ → Row) (value : ℕ → ℤ) (limit : Limit
       either_state false b f = b
 
   -- and is one row's
-  governs_one : (n : ℕ) (g : Governs) → governing q row value limit n ≡ some g → StateRow row value limit n g
+  governs_one : (n : ℕ) (g : Governs) → governing q row value limit n ≡ Some g → StateRow row value limit n g
   unfolding governing
-  governs_one zero g e = absurd (some-ne-none _ (sym e))
+  governs_one zero g e = absurd (none-some _ e)
   governs_one (suc n) g e = go (governs_one n) (is_of limit (row (suc n)).limit) refl e
     where
       wider : (s : Governs) → StateRow row value limit n s → StateRow row value limit (suc n) s
       wider s o = let l = o.last in record { first = o.first; last = omega arith; state = o.state; its = o.its }
 
-      go : ((s : Governs) → governing q row value limit n ≡ some s → StateRow row value limit n s) → (t : Bool) → is_of limit (row (suc n)).limit ≡ t →
-          (if t then later_if_better q (governing q row value limit n) (now n) else governing q row value limit n) ≡ some g → StateRow row value limit (suc n) g
+      go : ((s : Governs) → governing q row value limit n ≡ Some s → StateRow row value limit n s) → (t : Bool) → is_of limit (row (suc n)).limit ≡ t →
+          (if t then later_if_better q (governing q row value limit n) (now n) else governing q row value limit n) ≡ Some g → StateRow row value limit (suc n) g
       go less true t e =
           later_one q (StateRow row value limit (suc n)) (governing q row value limit n) (now n) (λ s f. wider s (less s f))
           (record { first = omega arith; last = omega arith; state = is_same limit (row (suc n)).limit t; its = refl }) g e
       go less false t e = wider g (less g e)
 
 -- a state without a value has no row
-pub no_row : (q : Question) (job : Job) (limit : Limit) → state_value q job limit ≡ none → (r : ℕ) → RowOf job limit r → ⊥
+pub no_row : (q : Question) (job : Job) (limit : Limit) → state_value q job limit ≡ None → (r : ℕ) → RowOf job limit r → ⊥
 no_row q job limit e r of = subst (Bounds q _) e (governs_all q job.row _ limit job.rows r of.first of.last of.state)
 
 -- a state's value
-module _ (q : Question) (job : Job) (limit : Limit) (g : Governs) (is-value : state_value q job limit ≡ some g) where
+module _ (q : Question) (job : Job) (limit : Limit) (g : Governs) (is-value : state_value q job limit ≡ Some g) where
   -- is the best value of its row, which is of the state
   pub governing_row : RowOf job limit g.row × (g.value ≡ best_row q job.effect (traffic_value q job) (job.row g.row))
   governing_row = let o = governs_one q job.row _ limit job.rows g is-value in (record { first = o.first; last = o.last; state = o.state }, o.its)

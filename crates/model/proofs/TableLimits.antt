@@ -2,7 +2,7 @@
 use Rattle.std.specs.Prelude.{if◌then◌else◌}
 use mathlib.Core.Path.{◌≡◌, sym, ◌∙◌, ap}
 use mathlib.Core.Bool.{true, false, not, ◌||◌, false≢true}
-use mathlib.Core.Option.{none}
+use Rattle.std.specs.Prelude.{None}
 use mathlib.Core.List.{List}
 use Prim.Native.Nat.{ℕ, ◌+◌, ◌*◌, ◌<◌}
 use native.Mathlib.Omega.{arith}
@@ -50,14 +50,14 @@ factor_limit live z l =
     (λ _ e. let c = between_count 0 0 z e in (record { is = c.is; least = omega arith; most = omega (arith, c.most) }, λ _. omega (arith, c.most)))
     (λ t e. (between_count 0 3000 z e, λ u. absurd (false≢true (sym t ∙ ap (is 0) (l ∙ ap pos u)))))
 
-module _ (b : List ℕ) (clear : fault6 b ≡ none) (i : ℕ) where
+module _ (b : List ℕ) (clear : fault6 b ≡ None) (i : ℕ) where
   abbrev head : Header
   head = header_of b
 
   -- none of the three parts has a place at fault
-  searches : (misfit (format head Effects) (section_of b Effects) ≡ none) × (misfit (format head Rows) (section_of b Rows) ≡ none) × (misfit (format head Records) (section_of b Records) ≡ none)
+  searches : (misfit (format head Effects) (section_of b Effects) ≡ None) × (misfit (format head Rows) (section_of b Rows) ≡ None) × (misfit (format head Records) (section_of b Records) ≡ None)
   unfolding fault6
-  searches = let r = or_none _ _ clear in let t = or_none _ _ r.1 in (moved_none _ _ r.0, moved_none _ _ t.0, moved_none _ _ (or_none _ none t.1).0)
+  searches = let r = or_none _ _ clear in let t = or_none _ _ r.1 in (moved_none _ _ r.0, moved_none _ _ t.0, moved_none _ _ (or_none _ None t.1).0)
 
   -- an effect's value is within 1e14 N·U, in either unit
   pub effect_fits : i < head.effects → let u = effect_unit head.edition in Within 100000000000000 (effect_value u (section_of b Effects) (effect_size u * i))
@@ -91,11 +91,11 @@ module _ (b : List ℕ) (clear : fault6 b ≡ none) (i : ℕ) where
       }
 
 -- ---- 7 and 8: no row's chain comes back to a record or names an effect twice
-module _ (b : List ℕ) (e : fault7 b ≡ none) (i : ℕ) (h : i < (header_of b).rows) where
+module _ (b : List ℕ) (e : fault7 b ≡ None) (i : ℕ) (h : i < (header_of b).rows) where
   pub no_return : chain_returns b (i + 1) ≡ false
   unfolding fault7
   no_return = not-true _ (first_fits (row_tests (header_of b).rows (λ i. not (chain_returns b (i + 1)))) (section_of b Rows) (moved_none _ _ e) i h (omega arith))
 
-  pub no_repeat : fault8 b ≡ none → chain_names_twice b (i + 1) ≡ false
+  pub no_repeat : fault8 b ≡ None → chain_names_twice b (i + 1) ≡ false
   unfolding fault8
   no_repeat f = not-true _ (rw no_return at (first_fits (row_tests (header_of b).rows (λ i. chain_returns b (i + 1) || not (chain_names_twice b (i + 1)))) (section_of b Rows) (moved_none _ _ f) i h (omega arith)))

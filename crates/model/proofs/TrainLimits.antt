@@ -1,8 +1,9 @@
 -- What a call for a train that is not refused gives: its arguments within their limits, a line without a fault, and axles within their limits, none past the last.
 use Rattle.std.specs.Prelude.{if◌then◌else◌}
-use mathlib.Core.Path.{◌≡◌, refl}
+use mathlib.Core.Path.{sym, ◌≡◌, refl}
 use mathlib.Core.Bool.{Bool, true, false, ◌&&◌, and-eq-true_iff}
-use mathlib.Core.Option.{Option, none, some, some-ne-none, some-injective, none-ne-some}
+use Rattle.std.specs.Prelude.{Option, None, Some}
+use Rattle.std.proofs.lemmas.Option.{none-some, same_Some}
 use mathlib.Core.List.{List, [], ◌∷◌}
 use Prim.Native.Nat.{ℕ, zero, suc, ◌+◌, ◌-◌, ◌*◌, ◌/◌, ◌%◌, ◌≤◌, ◌<◌}
 use native.Mathlib.Nat.{div-eq_of_lt}
@@ -85,11 +86,11 @@ abbrev search_axles : ℕ → List Axle → Option ℕ
 search_axles h t = first_answer 0 (length t) (λ i. unless (axle_fits h t i) (suc i))
 
 module _ (h : ℕ) (t : List Axle) where
-  pub no_axles : length t < 1 → train_fault h t ≡ some 0
+  pub no_axles : length t < 1 → train_fault h t ≡ Some 0
   unfolding train_fault
   no_axles l = rw (lt-leb 1 (length t) l) refl
 
-  pub many_axles : 12 < length t → train_fault h t ≡ some 0
+  pub many_axles : 12 < length t → train_fault h t ≡ Some 0
   unfolding train_fault
   many_axles l = rw (le-leb 1 (length t) (omega arith), lt-leb (length t) 12 l) refl
 
@@ -97,10 +98,10 @@ module _ (h : ℕ) (t : List Axle) where
   unfolding train_fault
   some_axles l m = rw (le-leb 1 (length t) l, le-leb (length t) 12 m) refl
 
-module _ (h : ℕ) (t : List Axle) (clear : train_fault h t ≡ none) where
-  tested : (few t ≡ true) × (search_axles h t ≡ none)
+module _ (h : ℕ) (t : List Axle) (clear : train_fault h t ≡ None) where
+  tested : (few t ≡ true) × (search_axles h t ≡ None)
   unfolding train_fault
-  tested = by_test (few t) (λ b. (if b then search_axles h t else some 0) ≡ none → (b ≡ true) × (search_axles h t ≡ none)) (λ _ e. (refl, e)) (λ _ e. absurd (some-ne-none _ e)) clear
+  tested = by_test (few t) (λ b. (if b then search_axles h t else Some 0) ≡ None → (b ≡ true) × (search_axles h t ≡ None)) (λ _ e. (refl, e)) (λ _ e. absurd (none-some _ (sym e))) clear
 
   each : (i : ℕ) → i < length t → AxleFits t i
   each i l = axle_fits_lem h t i (unless_none _ (suc i) (answer_each 0 (length t) (λ i. unless (axle_fits h t i) (suc i)) tested.1 i (omega arith) (omega arith)))
@@ -131,29 +132,29 @@ module _ (h : ℕ) (t : List Axle) (clear : train_fault h t ≡ none) where
   train_short = let n = axle_count.0 in (each (length t - 1) (omega arith)).near
 
 -- a place is an axle's number, or 0
-pub fault_place : (h : ℕ) (t : List Axle) {p : ℕ} → train_fault h t ≡ some p → p ≤ 12
+pub fault_place : (h : ℕ) (t : List Axle) {p : ℕ} → train_fault h t ≡ Some p → p ≤ 12
 unfolding train_fault
-fault_place h t {p} = by_test (few t) (λ b. (if b then search_axles h t else some 0) ≡ some p → p ≤ 12)
+fault_place h t {p} = by_test (few t) (λ b. (if b then search_axles h t else Some 0) ≡ Some p → p ≤ 12)
     (λ b e.
     let n : length t ≤ 12 = leb-true _ _ ((and-eq-true_iff (leb 1 (length t)) (leb (length t) 12)).0 b).1 in
     let a = answer_one 0 (length t) (λ i. unless (axle_fits h t i) (suc i)) p e in
     let q = place (axle_fits h t a.0) a.0 a.2 in
     omega (arith, a.1))
-    (λ _ e. let q = some-injective 0 p e in omega arith)
+    (λ _ e. let q = same_Some 0 p e in omega arith)
   where
-    place : (b : Bool) (i : ℕ) → unless b (suc i) ≡ some p → p ≡ suc i
-    place true i e = absurd (none-ne-some p e)
-    place false i e = let q = some-injective (suc i) p e in omega arith
+    place : (b : Bool) (i : ℕ) → unless b (suc i) ≡ Some p → p ≡ suc i
+    place true i e = absurd (none-some p e)
+    place false i e = let q = same_Some (suc i) p e in omega arith
 
 -- ---- the verdict
 -- no number finds a fault
 pub record CallClear (c : TrainCall) (room : ℕ) : Type 0 where
   pub arguments : ArgumentsFit c.h c.pieces (length c.section) room
-  pub ordinates : misfit (line_layout (ordinate_limit First) c.pieces) c.section ≡ none
-  pub sided : misfit (signs c.pieces) c.section ≡ none
-  pub train : train_fault c.h c.train ≡ none
+  pub ordinates : misfit (line_layout (ordinate_limit First) c.pieces) c.section ≡ None
+  pub sided : misfit (signs c.pieces) c.section ≡ None
+  pub train : train_fault c.h c.train ≡ None
 
-pub call_clear : (c : TrainCall) (room : ℕ) → train_verdict c room ≡ none → CallClear c room
+pub call_clear : (c : TrainCall) (room : ℕ) → train_verdict c room ≡ None → CallClear c room
 unfolding train_verdict train_tests
 call_clear c room e =
     let f = all_clear (train_tests c room) e in

@@ -2,7 +2,7 @@
 use Rattle.std.specs.Prelude.{if◌then◌else◌}
 use mathlib.Core.Path.{◌≡◌, refl, sym, ◌∙◌, ap, ap₂, subst}
 use mathlib.Core.Bool.{Bool, true, false, false≢true}
-use mathlib.Core.Option.{none}
+use Rattle.std.specs.Prelude.{None}
 use mathlib.Core.List.{List}
 use Prim.Native.Nat.{ℕ, zero, ◌-◌, ◌*◌, ◌^◌, ◌<◌}
 use native.Mathlib.Nat.{mul-pos}
@@ -153,6 +153,6 @@ module _ (q : Question) (job : Job) (live : Live) (k : ℕ) (a : Arrangement) (s
       (no_better_scale q (800000 * g * (3 * y)) _ _ (no_better_trans q _ _ _ sum_bound (no_better_scale q c _ _ (best_bound q job k a live law))))))
 
 -- and so of every accepted job
-pub accepted_unbeaten : (b : List ℕ) → job_verdict b ≡ none → (q : Question) (live : Live) (k : ℕ) (a : Arrangement) → Lawful (decode b) live k a →
+pub accepted_unbeaten : (b : List ℕ) → job_verdict b ≡ None → (q : Question) (live : Live) (k : ℕ) (a : Arrangement) → Lawful (decode b) live k a →
     NoBetter q (arranged q (decode b) live k a) (traffic_value q (decode b) live)
 accepted_unbeaten b e q live k a law = unbeaten q (decode b) live k a (accepted_signed b e) (accepted_spaced b e) law

@@ -1,6 +1,7 @@
 -- "The job's words" as one table: for an edition, each part of a job with the number of its items and the limits of their words.
 use Rattle.std.specs.Prelude.{ℕ, ◌+◌, ◌-◌, ◌*◌, ◌/◌, if◌then◌else◌}
-use mathlib.Core.{Bool.Bool, List.List, List.[], List.◌∷◌, Option.Option, Option.none}
+use mathlib.Core.{Bool.Bool, List.List, List.[], List.◌∷◌}
+use Rattle.std.specs.Prelude.{Option, None}
 use lib.{IntN.ℤ, IntN.pos, IntN.◌*ℤ◌, Signed.le_z, ListN.length, ListN.take, ListN.drop, Dec.ltb, Dec.eqb}
 use Rattle.exact.specs.Choice.{between, or_else}
 use Rattle.words.specs.{Words.word_at, Words.count_at, Fields.Field, Fields.Layout, Fields.free, Fields.range, Fields.within, Fields.wide_within, Fields.one_of, Fields.given, Fields.numbered, Fields.both, Fields.◌of◌, Fields.words_in, Fields.moved, Fields.misfit}
@@ -148,7 +149,7 @@ table_counts Fourth =
     range 11 11  -- E: DL, EP, OW, SG, ST, TP, HE, WD, FW, EQ, CN
     ∷ range 0 0  -- R: the rows are built in
     ∷ range 0 0  -- C
-    ∷ range 1 3  -- barriers: 1 none, 2 pedestrian, 3 traffic
+    ∷ range 1 3  -- barriers: 1 None, 2 pedestrian, 3 traffic
     ∷ []
 
 -- an effect's mark, 1 always present, 2 may be left out; a rural bridge's DL, EP and OW have 1, the others 2
@@ -185,7 +186,7 @@ format head SecondTransverse = across_layout head.second head.spacing
 format head Effects = head.effects of effect_fields (effect_unit head.edition) (profile_of head.edition)
 format head Rows = head.rows of
     range 1 2  -- 1 service, 2 ultimate
-    ∷ range 0 2  -- live kind: 0 none, 1 normal, 2 overload
+    ∷ range 0 2  -- live kind: 0 None, 1 normal, 2 overload
     ∷ given 1 (λ live. range 0 (if is 0 live then 0 else 3000))  -- live factor, 0 for kind 0
     ∷ range 0 head.records  -- first record
     ∷ []
@@ -258,5 +259,5 @@ fault b head part = moved (start head part) (misfit (format head part) (section 
 
 -- the lowest place at fault in some parts, in order
 abbrev pub fault_in : List ℕ → Header → List Part → Option ℕ
-fault_in b head [] = none
+fault_in b head [] = None
 fault_in b head (part ∷ rest) = or_else (fault b head part) (fault_in b head rest)

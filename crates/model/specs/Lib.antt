@@ -14,6 +14,7 @@ pub mod StandardForm
 pub mod Trains
 pub mod Arrangements
 pub mod Numbers
+pub mod Answers
 pub mod Answered
 pub mod Placements
 pub mod Determined

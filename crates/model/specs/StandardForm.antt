@@ -1,6 +1,7 @@
 -- "One way to write a job" (02): a job's standard form, and when two jobs say the same. In the form records are numbered in row order, rising by effect within a row, zero factors dropped, no shared tails and no other records.
 use Rattle.std.specs.Prelude.{ℕ, zero, suc, ◌+◌, ◌*◌, ◌≤◌, ◌<◌, if◌then◌else◌}
-use mathlib.Core.{Path.◌≡◌, Option.Option, List.List, List.[], List.◌∷◌, List.◌++◌}
+use mathlib.Core.{Path.◌≡◌, List.List, List.[], List.◌∷◌, List.◌++◌}
+use Rattle.std.specs.Prelude.{Option}
 use lib.{ListN.length, ListN.take, ListN.drop, Dec.leb, Dec.eqb}
 use Rattle.exact.specs.Choice.{or_else}
 use Rattle.words.specs.Words.{byte_at, word_at}
@@ -8,7 +9,8 @@ use Rattle.buffer.specs.Stored.{little_endian}
 use Rattle.model.specs.Job.{Term, Job}
 use Rattle.model.specs.Format.{header_of, size, bytes, words, section_of}
 use Rattle.model.specs.Decode.{decode}
-use Rattle.model.specs.Refusals.{Refusal, unless, ◌finds◌, first_refusal, highway_verdict}
+use Rattle.model.specs.Refusals.{unless, ◌finds◌, first_refusal, highway_verdict}
+use Rattle.model.specs.declared.Refusal.{Refusal}
 use Rattle.model.specs.declared.{Part.Part, Part.TheVariants.Head, Part.TheVariants.Line, Part.TheVariants.Transverse, Part.TheVariants.SecondTransverse, Part.TheVariants.Effects, Part.TheVariants.Rows, Part.TheVariants.Records}
 
 -- ---- what a job says

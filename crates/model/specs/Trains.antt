@@ -1,12 +1,14 @@
 -- "Rating trucks" of document 02: a train of axles on the line alone. Loads are in kN, distances in dm, effects in kN·U.
 use Rattle.std.specs.Prelude.{ℕ, zero, suc, ◌+◌, ◌-◌, ◌*◌, ◌/◌, ◌%◌, ◌<◌, if◌then◌else◌}
-use mathlib.Core.{Path.◌≡◌, Bool.Bool, Bool.◌&&◌, Option.Option, Option.some, List.List, List.[], List.◌∷◌}
+use mathlib.Core.{Path.◌≡◌, Bool.Bool, Bool.◌&&◌, List.List, List.[], List.◌∷◌}
+use Rattle.std.specs.Prelude.{Option, Some}
 use lib.{IntN.ℤ, IntN.pos, IntN.neg_ℤ, IntN.◌+ℤ◌, IntN.◌-ℤ◌, IntN.◌*ℤ◌, Signed.◌≤ℤ◌, ListN.length, ListN.get_or, Dec.leb, Dec.eqb}
 use Rattle.exact.specs.{Ranges.sum_to, Questions.better, Questions.extreme, Questions.NoBetter, declared.Question.Question, declared.Question.TheVariants.Greatest, declared.Question.TheVariants.Least}
 use Rattle.words.specs.Fields.{admits, first_answer, misfit}
 use Rattle.model.specs.Job.{InfluenceLine}
 use Rattle.model.specs.Format.{bytes, piece_length, piece_count, line_layout, ordinate_limit}
-use Rattle.model.specs.Refusals.{Refusal, Test, unless, signs, ◌finds◌, first_refusal}
+use Rattle.model.specs.Refusals.{Test, unless, signs, ◌finds◌, first_refusal}
+use Rattle.model.specs.declared.Refusal.{Refusal}
 use Rattle.model.specs.Line.{ordinate}
 use Rattle.model.specs.declared.{Edition.TheVariants.First, Part.TheVariants.Line, Side.Side, Side.TheVariants.Left, Side.TheVariants.Right, Axle.Axle, Way.Way, Way.TheVariants.AsGiven, Way.TheVariants.Turned, Mode.Mode, Mode.TheVariants.AllAxles, Mode.TheVariants.NoRelief, TrainExtreme.TrainExtreme, Rating.Rating}
 
@@ -109,7 +111,7 @@ axle_fits h t i = leb 1 (axle_at t i).load && leb (axle_at t i).load 400 && leb 
 
 -- 10: the number of axles is not from 1 to 12, place 0; else the first axle outside its limits, from 1
 unfoldable pub train_fault : (h : ℕ) → List Axle → Option ℕ
-train_fault h t = if leb 1 (length t) && leb (length t) 12 then first_answer 0 (length t) (λ i. unless (axle_fits h t i) (suc i)) else some 0
+train_fault h t = if leb 1 (length t) && leb (length t) 12 then first_answer 0 (length t) (λ i. unless (axle_fits h t i) (suc i)) else Some 0
 
 -- the tests of a call with a report buffer of so many bytes, in the order in which they run: 2 for an argument outside its limits, 4 and 5 by the line's own words, then 10
 unfoldable pub train_tests : TrainCall → (room : ℕ) → List Test

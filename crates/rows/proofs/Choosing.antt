@@ -2,7 +2,7 @@
 use Rattle.std.specs.Prelude.{if◌then◌else◌}
 use mathlib.Core.Path.{◌≡◌, refl, sym, ◌∙◌, ap, subst}
 use mathlib.Core.Bool.{Bool, true, false, true≢false}
-use mathlib.Core.Option.{Option, none, some}
+use Rattle.std.specs.Prelude.{Option, None, Some}
 use Prim.Native.Nat.{ℕ, zero, suc, ◌+◌}
 use native.Mathlib.Numerals.{add-one}
 use native.Mathlib.Omega.{arith}
@@ -27,13 +27,13 @@ module _ (q : Question) (effect : ℕ → Effect) (row : ℕ → Row) (traffic :
   -- the later row, as the model has it
   later_is : (sofar next : Governing) → eqb next.row 0 ≡ false → found (later_row q sofar next) ≡ later_if_better q (found sofar) (governed next)
   later_is sofar next there =
-      by_test (eqb sofar.row 0) (λ t. found (if t then next else (if beats q next.value sofar.value then next else sofar)) ≡ later_if_better q (if t then none else some (governed sofar)) (governed next))
+      by_test (eqb sofar.row 0) (λ t. found (if t then next else (if beats q next.value sofar.value then next else sofar)) ≡ later_if_better q (if t then None else Some (governed sofar)) (governed next))
       (λ _. is_next)
-      (λ e. by_test (beats q next.value sofar.value) (λ t. found (if t then next else sofar) ≡ (if t then some (governed next) else some (governed sofar)))
-      (λ _. is_next) (λ _. ap (λ (t : Bool). if t then none else some (governed sofar)) e))
+      (λ e. by_test (beats q next.value sofar.value) (λ t. found (if t then next else sofar) ≡ (if t then Some (governed next) else Some (governed sofar)))
+      (λ _. is_next) (λ _. ap (λ (t : Bool). if t then None else Some (governed sofar)) e))
     where
-      is_next : found next ≡ some (governed next)
-      is_next = ap (λ (t : Bool). if t then none else some (governed next)) there
+      is_next : found next ≡ Some (governed next)
+      is_next = ap (λ (t : Bool). if t then None else Some (governed next)) there
 
   later_right : (sofar next : Governing) → RowRight q effect row traffic next → (eqb sofar.row 0 ≡ false → RowRight q effect row traffic sofar) → RowRight q effect row traffic (later_row q sofar next)
   later_right sofar next right old =
@@ -105,12 +105,12 @@ module _ (effect : ℕ → Effect) (row : ℕ → Row) (traffic : Question → L
 
 -- ---- a state's two questions have a row or none together
 abbrev has : Option Governs → Bool
-has none = false
-has (some g) = true
+has None = false
+has (Some g) = true
 
 later_has : (q : Question) (o : Option Governs) (g : Governs) → has (later_if_better q o g) ≡ true
-later_has q none g = refl
-later_has q (some s) g = by_test (beats q g.value s.value) (λ t. has (if t then some g else some s) ≡ true) (λ _. refl) (λ _. refl)
+later_has q None g = refl
+later_has q (Some s) g = by_test (beats q g.value s.value) (λ t. has (if t then Some g else Some s) ≡ true) (λ _. refl) (λ _. refl)
 
 same_rows : (q p : Question) (row : ℕ → Row) (v w : ℕ → ℤ) (limit : Limit) (n : ℕ) → has (governing q row v limit n) ≡ has (governing p row w limit n)
 unfolding governing
@@ -124,7 +124,7 @@ same_rows q p row v w limit (suc n) =
 -- what was found, said of the state
 module _ (effect : ℕ → Effect) (row : ℕ → Row) (traffic : Question → Live → ℤ) (limit : Limit) (n : ℕ) (x : RowBoth) (f : (q : Question) → RowFound q effect row (traffic q) limit n (row_for q x)) where
   has_found : (g : Governing) → has (found g) ≡ (if eqb g.row 0 then false else true)
-  has_found g = by_test (eqb g.row 0) (λ t. has (if t then none else some (governed g)) ≡ (if t then false else true)) (λ _. refl) (λ _. refl)
+  has_found g = by_test (eqb g.row 0) (λ t. has (if t then None else Some (governed g)) ≡ (if t then false else true)) (λ _. refl) (λ _. refl)
 
   -- a question has a row where the other has one
   alike : (q : Question) {t : Bool} → eqb x.greatest.row 0 ≡ t → eqb (row_for q x).row 0 ≡ t
@@ -136,8 +136,8 @@ module _ (effect : ℕ → Effect) (row : ℕ → Row) (traffic : Question → L
       go false true p = absurd (true≢false p)
       go false false p = refl
 
-  at : (q : Question) {t : Bool} → eqb x.greatest.row 0 ≡ t → governs q effect row (traffic q) limit n ≡ (if t then none else some (governed (row_for q x)))
-  at q e = (f q).is ∙ ap (λ (t : Bool). if t then none else some (governed (row_for q x))) (alike q e)
+  at : (q : Question) {t : Bool} → eqb x.greatest.row 0 ≡ t → governs q effect row (traffic q) limit n ≡ (if t then None else Some (governed (row_for q x)))
+  at q e = (f q).is ∙ ap (λ (t : Bool). if t then None else Some (governed (row_for q x))) (alike q e)
 
   pub state_found : StateFound effect row traffic limit n (state_by x)
   state_found =

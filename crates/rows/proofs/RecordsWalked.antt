@@ -1,7 +1,7 @@
 -- The records walked of a job are at most R times E, for a chain names each effect at most once.
 use mathlib.Core.Path.{◌≡◌, refl, ◌∙◌, ap}
 use mathlib.Core.Bool.{Bool, true, false}
-use mathlib.Core.Option.{none}
+use Rattle.std.specs.Prelude.{None}
 use mathlib.Core.List.{List}
 use Prim.Native.Nat.{ℕ, ◌+◌, ◌*◌, ◌≤◌}
 use native.Mathlib.Nat.{le_refl, le_trans, mul-le-mul_right}
@@ -47,7 +47,7 @@ module _ {e w s : List ℕ} {head : Header} (fits : TablesFit e w s head) where
   pub walked_near : (p : Profile) (n : ℕ) → n ≤ row_count p head.rows → walked_to p (row_of p w s head.records) n ≤ 512
   walked_near p n h = omega (arith, walked_few 16 (λ c h k. (fits.records c h k).most) p n h, fits.few)
 
-module _ (b : List ℕ) (accepted : job_verdict b ≡ none) where
+module _ (b : List ℕ) (accepted : job_verdict b ≡ None) where
   -- the records walked are at most R times E
   pub walked_bound : records_walked (decode b) ≤ (header_of b).rows * (header_of b).effects
   unfolding decode

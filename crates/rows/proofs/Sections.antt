@@ -1,6 +1,6 @@
 -- An accepted job's effect, row and record sections fit.
 use mathlib.Core.Path.{◌≡◌, sym, ◌∙◌, ap}
-use mathlib.Core.Option.{none}
+use Rattle.std.specs.Prelude.{None}
 use mathlib.Core.List.{List}
 use Prim.Native.Nat.{ℕ, ◌+◌, ◌-◌, ◌*◌, ◌≤◌}
 use native.Mathlib.Omega.{arith}
@@ -24,7 +24,7 @@ effect_inside : (u : EffectUnit) (p : Profile) (n e : ℕ) → let bytes = 4 * (
 effect_inside kilonewtons p n e = (λ h. omega arith, λ h. omega arith)
 effect_inside newtons p n e = (λ h. omega arith, λ h. omega arith)
 
-module _ (b : List ℕ) (accepted : job_verdict b ≡ none) where
+module _ (b : List ℕ) (accepted : job_verdict b ≡ None) where
   c : Clear b
   c = clear b accepted
 

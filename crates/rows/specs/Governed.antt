@@ -1,6 +1,6 @@
 -- What a row's best value, and a limit state's, come with.
 use Rattle.std.specs.Prelude.{ℕ, ◌+◌, ◌≤◌, ◌≡◌, Bool, true, false, eqb, ℤ, pos, ◌+ℤ◌, ◌*ℤ◌, if◌then◌else◌}
-use Rattle.std.proofs.Math.Option.{Option, none, some}
+use Rattle.std.specs.Prelude.{Option, None, Some}
 use Rattle.exact.specs.Bounds.{Within}
 use Rattle.exact.specs.Questions.{better, beats}
 use Rattle.exact.specs.declared.Question.{Question}
@@ -83,7 +83,7 @@ governed x = record { value = x.value; row = x.row }
 
 -- the row found; row 0 is none
 abbrev pub found : Governing → Option Governs
-found x = if eqb x.row 0 then none else some (governed x)
+found x = if eqb x.row 0 then None else Some (governed x)
 
 -- the later row if it beats the earlier, or if there is none
 abbrev pub later_row : Question → Governing → Governing → Governing
@@ -124,10 +124,10 @@ state_for ultimate x = x.ultimate
 
 -- a limit state's value is that of its governing row, and is right
 pub record StateRow (q : Question) (effect : ℕ → Effect) (row : ℕ → Row) (traffic : Live → ℤ) (limit : Limit) (n : ℕ) (x : Governing) : Type 0 where
-  pub value : governs q effect row traffic limit n ≡ some (governed x)
+  pub value : governs q effect row traffic limit n ≡ Some (governed x)
   pub right : RowRight q effect row traffic x
 
 -- none where the state has no row, and only there; else the governing row of each question
 abbrev pub StateFound : (effect : ℕ → Effect) → (row : ℕ → Row) → (traffic : Question → Live → ℤ) → Limit → ℕ → State → Type 0
-StateFound effect row traffic limit n Absent = (q : Question) → governs q effect row (traffic q) limit n ≡ none
+StateFound effect row traffic limit n Absent = (q : Question) → governs q effect row (traffic q) limit n ≡ None
 StateFound effect row traffic limit n (Reported g l) = StateRow Greatest effect row (traffic Greatest) limit n g × StateRow Least effect row (traffic Least) limit n l

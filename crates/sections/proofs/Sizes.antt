@@ -1,7 +1,7 @@
 -- The sizes of the parts of a header, and the bytes of a part.
 use Rattle.std.specs.Prelude.{if◌then◌else◌}
 use mathlib.Core.Path.{◌≡◌, refl, sym, ◌∙◌, ap, ap₂, subst}
-use mathlib.Core.Option.{none}
+use Rattle.std.specs.Prelude.{None}
 use mathlib.Core.List.{List}
 use Prim.Native.Nat.{ℕ, ◌+◌, ◌-◌, ◌*◌, ◌≤◌, ◌<◌}
 use native.Mathlib.Nat.{div-eq_of_lt, div-lt_iff_lt-mul, mul-le-mul}
@@ -21,11 +21,11 @@ use Rattle.model.proofs.Verdict.{header_short, effect_size_lem, two_or_three, si
 use Rattle.sections.specs.Sized.{Counted, Sized}
 
 -- a job without faults 1 to 3 has the bytes that its header calls for
-pub is_sized : (b : List ℕ) {head : Header} → head ≡ header_of b → fault1 b ≡ none → fault2 b ≡ none → fault3 b ≡ none → Sized b head
+pub is_sized : (b : List ℕ) {head : Header} → head ≡ header_of b → fault1 b ≡ None → fault2 b ≡ None → fault3 b ≡ None → Sized b head
 is_sized b o e f g = record { own = o; within = f; due = size_fits b e g ∙ ap (λ (h : Header). 4 * words_due h) (sym o) }
 
 -- a job without fault 2 has its counts within their limits
-pub counted : (b : List ℕ) → fault2 b ≡ none → Counted (header_of b)
+pub counted : (b : List ℕ) → fault2 b ≡ None → Counted (header_of b)
 counted b e =
     let f = header_fits b e in
     record {

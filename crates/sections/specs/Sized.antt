@@ -1,6 +1,6 @@
 -- What the code's contracts say of a header beside the table: its counts within their limits, and the job that it is of.
 use Rattle.std.specs.Prelude.{◌≡◌, List, ℕ, ◌*◌, ◌≤◌, ◌<◌, length}
-use Rattle.std.proofs.Math.Option.{none}
+use Rattle.std.specs.Prelude.{None}
 use Rattle.model.specs.Format.{header_of, words_due}
 use Rattle.model.specs.Refusals.{fault2}
 use Rattle.model.specs.declared.Header.{Header}
@@ -20,5 +20,5 @@ pub record Counted (head : Header) : Type 0 where
 -- the job's own header, its words within their limits, and the bytes that it calls for
 pub record Sized (b : List ℕ) (head : Header) : Type 0 where
   pub own : head ≡ header_of b
-  pub within : fault2 b ≡ none
+  pub within : fault2 b ≡ None
   pub due : length b ≡ 4 * words_due head

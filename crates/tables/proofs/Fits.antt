@@ -1,6 +1,6 @@
 -- An accepted job's row and record sections can be read, and the terms read there are its rows'.
 use mathlib.Core.Path.{◌≡◌, ap}
-use mathlib.Core.Option.{none}
+use Rattle.std.specs.Prelude.{None}
 use mathlib.Core.List.{List}
 use Prim.Native.Nat.{ℕ, ◌≤◌}
 use Rattle.model.specs.Format.{profile_of, header_of, section_of}
@@ -25,7 +25,7 @@ fit_reads fit few = record {
   chain = λ r h k. let f = fit.rows r h k in record { inside = f.first; distinct = f.distinct };
 }
 
-pub accepted_reads : (b : List ℕ) → job_verdict b ≡ none → ChainsRead (section_of b Rows) (section_of b Records) (header_of b)
+pub accepted_reads : (b : List ℕ) → job_verdict b ≡ None → ChainsRead (section_of b Rows) (section_of b Records) (header_of b)
 accepted_reads b accepted = fit_reads (tables_fit b accepted) (header_fits b (clear b accepted).c2).effects.most
 
 -- a job that lists its rows: their terms, the form's C, rows and records

@@ -1,6 +1,6 @@
 -- The train that was gathered, beside the train that was given.
 use mathlib.Core.Path.{◌≡◌, refl, sym, ◌∙◌, ap}
-use mathlib.Core.Option.{some}
+use Rattle.std.specs.Prelude.{Some}
 use mathlib.Core.List.{List}
 use Prim.Native.Nat.{ℕ, zero, suc, ◌≤◌, ◌<◌}
 use native.Mathlib.Decide.{dec_le}
@@ -33,13 +33,13 @@ train_count g e = elim (dec_le g.count 12) [ yes l ↦ ap length (train_few g l)
     taken l = omega (arith, length-take g.count g.axles)
 
 -- none, or more than twelve, is a fault at place 0
-pub none_given : (h : ℕ) (g : Gathered) → g.count < 1 → some 0 ≡ train_fault h (train_of g)
+pub none_given : (h : ℕ) (g : Gathered) → g.count < 1 → Some 0 ≡ train_fault h (train_of g)
 none_given h g l = sym (no_axles h (train_of g) (short (train_few g (omega arith))))
   where
     short : train_of g ≡ take g.count g.axles → length (train_of g) < 1
     short e = rw e (omega (arith, length-take g.count g.axles))
 
-pub too_many : (h : ℕ) (g : Gathered) → 12 < g.count → some 0 ≡ train_fault h (train_of g)
+pub too_many : (h : ℕ) (g : Gathered) → 12 < g.count → Some 0 ≡ train_fault h (train_of g)
 too_many h g l = sym (many_axles h (train_of g) (omega (arith, train_many g l)))
 
 -- an axle fits there as in the array

@@ -1,6 +1,6 @@
 -- What a host may conclude from the result of a call for a train.
 use mathlib.Core.Path.{◌≡◌, sym, ◌∙◌, ap, ap₂}
-use mathlib.Core.Option.{none, some}
+use Rattle.std.specs.Prelude.{None, Some}
 use mathlib.Core.List.{List}
 use Prim.Native.Nat.{ℕ, zero, suc, ◌*◌, ◌/◌, ◌%◌, ◌<◌}
 use native.Mathlib.Omega.{arith}
@@ -9,7 +9,7 @@ use lib.ListN.{length, get_or, drop}
 use Rattle.exact.specs.declared.Question.TheVariants.{Greatest, Least}
 use Rattle.numbers.specs.NumberBytes.{number_of}
 use Rattle.reports.specs.ReportNumbers.{report_numbers}
-use Rattle.model.specs.Refusals.{Refusal}
+use Rattle.model.specs.declared.Refusal.{Refusal}
 use Rattle.model.specs.Job.{InfluenceLine}
 use Rattle.model.specs.Trains.{TrainCall, RatingRight, train_verdict}
 use Rattle.model.specs.declared.{Axle.Axle, Mode.Mode, Rating.Rating}
@@ -18,11 +18,11 @@ use Rattle.model.proofs.RefusalNumbers.{train_number_small}
 use Rattle.trains.specs.Rated.{result_of, Rated, refused, rated}
 
 -- number and place come apart again, as the header takes them
-pub taken_apart : (c : TrainCall) (room : ℕ) (r : Refusal) → train_verdict c room ≡ some r → (result_of (some r) % 256 ≡ r.number) × (result_of (some r) / 256 ≡ r.place)
+pub taken_apart : (c : TrainCall) (room : ℕ) (r : Refusal) → train_verdict c room ≡ Some r → (result_of (Some r) % 256 ≡ r.number) × (result_of (Some r) / 256 ≡ r.place)
 taken_apart c room r e = let s = train_number_small c room e in omega arith
 
 -- 0 is a rating, and only that
-pub zero_rates : {c : TrainCall} {before after : List ℕ} → Rated c before 0 after → train_verdict c (length before) ≡ none
+pub zero_rates : {c : TrainCall} {before after : List ℕ} → Rated c before 0 after → train_verdict c (length before) ≡ None
 zero_rates {c} {before} (refused r v e a) = let s = train_number_small c (length before) v in absurd (omega (arith, e))
 zero_rates (rated v r right e a k) = v
 

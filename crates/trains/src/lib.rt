@@ -2,7 +2,7 @@
 #![tactic(auto)]
 
 ghost use Rattle.std.specs.Prelude.{◌≡◌, ◌&&◌, ℕ, suc, ◌≤◌, ◌<◌, eqb, pos, if◌then◌else◌};
-ghost use Rattle.std.proofs.Math.Option.{none, some};
+ghost use Rattle.std.specs.Prelude.{None, Some};
 ghost use Rattle.words.specs.Fields.{admits, first_answer};
 ghost use Rattle.model.specs.Format.{piece_length, piece_count};
 ghost use Rattle.model.specs.Refusals.{unless, packed, refuse};
@@ -141,8 +141,8 @@ fn packed(number: u64, place: usize) -> u64
 
 // A test's refusal; 0 where it finds nothing.
 fn refusal(number: u64, fault: Fault) -> u64
-    requires { (number ≤ 10) × ((p : ℕ) → place_of fault ≡ some p → p ≤ 4000) }
-    ensures { result ≡ result_of (refuse number (place_of fault) none) }
+    requires { (number ≤ 10) × ((p : ℕ) → place_of fault ≡ Some p → p ≤ 4000) }
+    ensures { result ≡ result_of (refuse number (place_of fault) None) }
 {
     match fault {
         Fault::At(p) => packed(number, p),

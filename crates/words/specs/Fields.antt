@@ -1,6 +1,6 @@
 -- What the table of a format is made of: a section has items, an item has fields, and a field is a word with limits.
 use Rattle.std.specs.Prelude.{ℕ, zero, suc, ◌+◌, ◌*◌, Bool, true, false, ◌&&◌, ◌||◌, List, [], ◌∷◌, ℤ, pos, neg_ℤ, length, if◌then◌else◌}
-use Rattle.std.proofs.Math.Option.{Option, none, some}
+use Rattle.std.specs.Prelude.{Option, None, Some}
 use Rattle.exact.specs.Choice.{between, or_else}
 use Rattle.words.specs.Words.{word_at, wide}
 
@@ -65,13 +65,13 @@ words_in l = length l.fields * l.items
 
 -- a place so many words on
 abbrev pub moved : ℕ → Option ℕ → Option ℕ
-moved start none = none
-moved start (some p) = some (start + p)
+moved start None = None
+moved start (Some p) = Some (start + p)
 
 -- the first of an item's fields that does not admit its word, the fields counting from j
 abbrev pub misfit_from : ℕ → List Field → Item → Option ℕ
-misfit_from j [] item = none
-misfit_from j (field ∷ rest) item = if field item (item.word j) then misfit_from (suc j) rest item else some j
+misfit_from j [] item = None
+misfit_from j (field ∷ rest) item = if field item (item.word j) then misfit_from (suc j) rest item else Some j
 
 -- item i, whose first word is at place p
 abbrev pub item_from : List ℕ → ℕ → ℕ → Item
@@ -83,7 +83,7 @@ item_misfit fields s i = moved (length fields * i) (misfit_from 0 fields (item_f
 
 -- the first answer among f i, f (i + 1), .., n of them
 abbrev pub first_answer : ℕ → ℕ → (ℕ → Option ℕ) → Option ℕ
-first_answer i zero f = none
+first_answer i zero f = None
 first_answer i (suc n) f = or_else (f i) (first_answer (suc i) n f)
 
 -- the lowest place at fault in a section, from its own first word

@@ -1,6 +1,6 @@
 -- A job that may be written: what its sections give, its form's bytes, and the front of the form as it is copied.
 use mathlib.Core.Path.{◌≡◌, sym, ◌∙◌, ap, ap₂, subst}
-use mathlib.Core.Option.{none}
+use Rattle.std.specs.Prelude.{None}
 use mathlib.Core.List.{List, ◌++◌, append_assoc}
 use Prim.Native.Nat.{ℕ, ◌+◌, ◌-◌, ◌*◌, ◌≤◌}
 use native.Mathlib.Omega.{arith}
@@ -28,7 +28,7 @@ slices : (t : List ℕ) (a b c d e : ℕ) → take a t ++ (take b (drop a t) ++ 
 slices t a b c d e = sym (take-add (a + b + c + d) e t ∙ rw (take-add (a + b + c) d t, take-add (a + b) c t, take-add a b t) (simp append_assoc))
 
 module _ {b : List ℕ} {head : Header} (w : Writable b head) where
-  accepted : job_verdict b ≡ none
+  accepted : job_verdict b ≡ None
   accepted = (highway_accepted b w.accepted).1
 
   none_found : Clear b

@@ -1,13 +1,14 @@
 -- What a host may conclude from the result of a call that writes a form.
 use mathlib.Core.Path.{◌≡◌, sym, ◌∙◌, ap}
 use mathlib.Core.Logic.{◌↔◌}
-use mathlib.Core.Option.{none, some}
+use Rattle.std.specs.Prelude.{None, Some}
 use mathlib.Core.List.{List, ◌++◌}
 use Prim.Native.Nat.{ℕ, ◌/◌, ◌%◌}
 use native.Mathlib.Omega.{arith}
 use lib.ListN.{length, take, drop}
 use lib.Seq.{take-append_seam}
-use Rattle.model.specs.Refusals.{Refusal, packed}
+use Rattle.model.specs.Refusals.{packed}
+use Rattle.model.specs.declared.Refusal.{Refusal}
 use Rattle.model.specs.StandardForm.{AreBytes, Agree, form, write_verdict}
 use Rattle.model.proofs.Determined.{some_not_none, some_injective}
 use Rattle.model.proofs.RefusalNumbers.{write_number_small}
@@ -16,11 +17,11 @@ use Rattle.forms.proofs.Standard.{form_exact}
 use Rattle.writer.specs.FormWritten.{FormWritten, short, refused, written}
 
 -- number and place come apart again, as the header takes them
-pub taken_apart : (job : List ℕ) (room : ℕ) (r : Refusal) → write_verdict job room ≡ some r → (packed r.number r.place % 256 ≡ r.number) × (packed r.number r.place / 256 ≡ r.place)
+pub taken_apart : (job : List ℕ) (room : ℕ) (r : Refusal) → write_verdict job room ≡ Some r → (packed r.number r.place % 256 ≡ r.number) × (packed r.number r.place / 256 ≡ r.place)
 taken_apart job room r e = let s = write_number_small job room e in omega arith
 
 -- 0 is a form written, and only that: it is at the front of the buffer, the rest as before
-pub zero_writes : {job out report o p : List ℕ} → FormWritten job out report 0 o p → (write_verdict job (length out) ≡ none) × (o ≡ form job ++ drop (length (form job)) out)
+pub zero_writes : {job out report o p : List ℕ} → FormWritten job out report 0 o p → (write_verdict job (length out) ≡ None) × (o ≡ form job ++ drop (length (form job)) out)
 zero_writes (short l e o p) = absurd (omega arith)
 zero_writes {job} {out} (refused l r v e o p) = let s = write_number_small job (length out) v in absurd (omega (arith, e))
 zero_writes (written l v e o p k) = (v, o)

@@ -1,6 +1,6 @@
 -- What the call that writes a job's standard form ensures: one refusal, or the form and its length.
 use Rattle.std.specs.Prelude.{ℕ, ◌≤◌, ◌<◌, ◌≡◌, List, [], ◌∷◌, ◌++◌, ℤ, pos, length, drop}
-use Rattle.std.proofs.Math.Option.{none, some}
+use Rattle.std.specs.Prelude.{None, Some}
 use Rattle.buffer.specs.Stored.{cleared}
 use Rattle.numbers.specs.NumberBytes.{numbers_bytes, ReadBack}
 use Rattle.model.specs.{Refusals.Refusal, Refusals.packed, StandardForm.form, StandardForm.write_verdict}
@@ -18,8 +18,8 @@ pub data FormWritten (job out report : List ℕ) (result : ℕ) (outAfter report
   -- a report buffer under a report's size, whatever the job: refusal 2 at place 0
   short : length report < length_size → result ≡ packed 2 0 → outAfter ≡ out → reportAfter ≡ cleared length_size report → FormWritten job out report result outAfter reportAfter
   -- a refusal: the output buffer is as before, the report zero, bytes past it as before
-  refused : length_size ≤ length report → (r : Refusal) → write_verdict job (length out) ≡ some r → result ≡ packed r.number r.place →
+  refused : length_size ≤ length report → (r : Refusal) → write_verdict job (length out) ≡ Some r → result ≡ packed r.number r.place →
       outAfter ≡ out → reportAfter ≡ cleared length_size report → FormWritten job out report result outAfter reportAfter
   -- else the form in front of the output buffer, bytes past it as before; and the report, whose number the host reads
-  written : length_size ≤ length report → write_verdict job (length out) ≡ none → result ≡ packed 0 0 → outAfter ≡ form job ++ drop (length (form job)) out →
+  written : length_size ≤ length report → write_verdict job (length out) ≡ None → result ≡ packed 0 0 → outAfter ≡ form job ++ drop (length (form job)) out →
       reportAfter ≡ numbers_bytes (length_numbers job) ++ drop length_size report → ReadBack reportAfter (length_numbers job) → FormWritten job out report result outAfter reportAfter

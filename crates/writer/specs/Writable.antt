@@ -1,6 +1,6 @@
 -- What is asked of a job before its form is written, and the front of the form.
 use Rattle.std.specs.Prelude.{◌≡◌, List, ◌++◌, ℕ}
-use Rattle.std.proofs.Math.Option.{none}
+use Rattle.std.specs.Prelude.{None}
 use Rattle.model.specs.Format.{header_of}
 use Rattle.model.specs.Refusals.{highway_verdict}
 use Rattle.model.specs.StandardForm.{form_part}
@@ -10,7 +10,7 @@ use Rattle.model.specs.declared.Part.TheVariants.{Head, Line, Transverse, Second
 -- the job is accepted, and the header is its own
 pub record Writable (b : List ℕ) (head : Header) : Type 0 where
   pub own : head ≡ header_of b
-  pub accepted : highway_verdict b ≡ none
+  pub accepted : highway_verdict b ≡ None
 
 -- the form's parts before the rows
 abbrev pub form_front : List ℕ → List ℕ

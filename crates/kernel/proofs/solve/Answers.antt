@@ -1,5 +1,5 @@
 use mathlib.Core.Path.{◌≡◌, refl, sym, ◌∙◌, ap, subst}
-use mathlib.Core.Option.{none}
+use Rattle.std.specs.Prelude.{None}
 use mathlib.Core.List.{List, ◌++◌}
 use Prim.Native.Nat.{ℕ}
 use native.Mathlib.Omega.{arith}
@@ -33,7 +33,7 @@ pieces b own = ap (λ (h : Header). h.pieces) own
 
 -- the account with its patch bytes written is the whole answer
 answers : {b before after line : List ℕ} {head : Header} (r : Ready b head) → line ≡ section_of b Line → after ≡ patch_bytes (influence_line line (header_of b).h head.pieces) ++ drop head.pieces before →
-    (a : Account) → PartsRight (decode b) a → verdict b (length before) ≡ none → Answered b before (record { refusal = 0; place = 0; account = a }) after
+    (a : Account) → PartsRight (decode b) a → verdict b (length before) ≡ None → Answered b before (record { refusal = 0; place = 0; account = a }) after
 unfolding decode
 answers {b} {before} {after} {line} {head} r l m a p v =
     let marked : after ≡ patch_bytes (decode b).line ++ drop (header_of b).pieces before =

@@ -1,7 +1,7 @@
 use mathlib.Core.Path.{◌≡◌, sym, ◌∙◌, ap}
 use Prim.Native.Nat.{ℕ, ◌+◌, ◌*◌, ◌≤◌}
 use native.Mathlib.Omega.{arith}
-use mathlib.Core.Option.{some}
+use Rattle.std.specs.Prelude.{Some}
 use Rattle.words.specs.Fields.{moved, misfit}
 use Rattle.model.specs.Format.{format}
 use Rattle.limits.specs.Faults.{place_of}
@@ -15,14 +15,14 @@ module _ (c : goal.After-item_words) where
   abbrev place : ℕ
   place = c.item_words.result * c.loop-i.i + c.in-At.j
 
-  found : misfit (format c.args.head c.args.part) c.args.s.now ≡ some place
+  found : misfit (format c.args.head c.args.part) c.args.s.now ≡ Some place
   unfolding misfit
   found =
       let i = c.loop-i.i in
       let j = c.in-At.j in
       let e = c.items-i-end.ensures.0 in
       search_found c.loop-i.invariant (omega arith) (ap (moved _) (sym c.item_misfit-fault.ensures ∙ ap place_of c.in-At.is))
-      ∙ ap (λ (w : ℕ). some (w * i + j)) (sym c.item_words.ensures.0)
+      ∙ ap (λ (w : ℕ). Some (w * i + j)) (sym c.item_words.ensures.0)
 
   small : place ≤ 27040
   small = few_words c.args.head c.args.part c.requires.1 (below (format c.args.head c.args.part) _ place found)

@@ -1,6 +1,6 @@
 use borrow.Author.Rules.{rules}
 use mathlib.Core.Path.{◌≡◌, refl, sym, ◌∙◌, ap, subst}
-use mathlib.Core.Option.{none}
+use Rattle.std.specs.Prelude.{None}
 use mathlib.Core.List.{List}
 use Prim.Native.Nat.{ℕ, ◌≤◌}
 use native.Mathlib.Omega.{arith}
@@ -26,7 +26,7 @@ module _ (h n : ℕ) (s : List ℕ) (g : Gathered) (mode room : ℕ) where
 
   -- a call that is not refused
   module _ {r : ℕ} (e : r ≡ result_of (train_verdict call room)) (z : r ≡ 0) where
-    accepted : train_verdict call room ≡ none
+    accepted : train_verdict call room ≡ None
     accepted = zero_accepts _ _ (sym e ∙ z)
 
     clear : CallClear call room

@@ -1,6 +1,6 @@
 use mathlib.Core.Path.{◌≡◌, sym, ◌∙◌, ap, ap₂}
 use mathlib.Core.Bool.{Bool, true}
-use mathlib.Core.Option.{Option, none}
+use Rattle.std.specs.Prelude.{Option, None}
 use mathlib.Core.List.{List}
 use Prim.Native.Nat.{ℕ}
 use native.Mathlib.Omega.{arith}
@@ -71,9 +71,9 @@ returns c =
     let found10 = train_fault c.args.h (train_of c.args.g) in
     let s = search_4 c.args.line.now c.args.pieces _ _ c.misfit.ensures c.header.ensures.1 c.header.ensures.2 in
     let later = c.or_else.ensures
-    ∙ then_later 5 found5 (refuse 10 found10 none) (omega arith)
-    (c.refusal-crossing.ensures ∙ ap (λ (o : Option ℕ). result_of (refuse 5 o none)) c.crossing.ensures)
-    (c.refusal-axle.ensures ∙ ap (λ (o : Option ℕ). result_of (refuse 10 o none)) c.train_fault.ensures) in
+    ∙ then_later 5 found5 (refuse 10 found10 None) (omega arith)
+    (c.refusal-crossing.ensures ∙ ap (λ (o : Option ℕ). result_of (refuse 5 o None)) c.crossing.ensures)
+    (c.refusal-axle.ensures ∙ ap (λ (o : Option ℕ). result_of (refuse 10 o None)) c.train_fault.ensures) in
     c.or_else-2.ensures
-    ∙ then_later 4 found4 (refuse 5 found5 (refuse 10 found10 none)) (omega arith) (c.refusal-stray.ensures ∙ ap (λ (o : Option ℕ). result_of (refuse 4 o none)) s) later
+    ∙ then_later 4 found4 (refuse 5 found5 (refuse 10 found10 None)) (omega arith) (c.refusal-stray.ensures ∙ ap (λ (o : Option ℕ). result_of (refuse 4 o None)) s) later
     ∙ ap result_of (past_2 call c.args.room (sym c.arguments_fit.ensures ∙ c.if-not-arguments_fit.false))

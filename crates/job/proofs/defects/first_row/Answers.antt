@@ -1,7 +1,7 @@
 use Rattle.std.specs.Prelude.{if◌then◌else◌}
 use mathlib.Core.Path.{◌≡◌, refl, sym, ap}
 use mathlib.Core.Bool.{Bool, not}
-use mathlib.Core.Option.{none, some}
+use Rattle.std.specs.Prelude.{None, Some}
 use mathlib.Core.List.{List}
 use Prim.Native.Nat.{ℕ, ◌+◌, ◌*◌, ◌<◌}
 use native.Mathlib.Nat.{add-zero}
@@ -30,10 +30,10 @@ count b e = ap (λ (h : Header). h.records) e
 
 -- the call's answer is row i's
 found : (b : List ℕ) (i : ℕ) (defect : Defect) {records : List ℕ} {f n : ℕ} {r t : Bool} → records ≡ section_of b Records → f ≡ first_record (section_of b Rows) (i + 1) → n ≡ (header_of b).records →
-    r ≡ is_defective defect records n f → r ≡ t → item_misfit (row_tests (header_of b).rows (chain_passes defect b)).fields (section_of b Rows) i ≡ (if t then some (size Rows * i) else none)
+    r ≡ is_defective defect records n f → r ≡ t → item_misfit (row_tests (header_of b).rows (chain_passes defect b)).fields (section_of b Rows) i ≡ (if t then Some (size Rows * i) else None)
 found b i defect {t = t} s f n d e =
     let p = passes b i s f n defect d in
-    rw (p, e) (by_test t (λ t. moved (size Rows * i) (if not t then none else some 0) ≡ (if t then some (size Rows * i) else none)) (λ _. ap some (add-zero (size Rows * i))) (λ _. refl))
+    rw (p, e) (by_test t (λ t. moved (size Rows * i) (if not t then None else Some 0) ≡ (if t then Some (size Rows * i) else None)) (λ _. ap Some (add-zero (size Rows * i))) (λ _. refl))
 
 pub count-first-requires : goal.count-first-requires
 count-first-requires c =

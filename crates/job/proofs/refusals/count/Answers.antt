@@ -1,5 +1,5 @@
 use mathlib.Core.Path.{◌≡◌, refl, sym, ◌∙◌, ap}
-use mathlib.Core.Option.{some}
+use Rattle.std.specs.Prelude.{Some}
 use mathlib.Core.List.{List}
 use Rattle.model.specs.declared.Header.{Header}
 use Prim.Native.Nat.{ℕ, ◌/◌}
@@ -22,7 +22,7 @@ pub returns : goal.returns
 unfolding fault3
 returns c =
     let b = c.args.s.now in
-    rw (ne_eqb (length b / 4) (words_due (header_of b)) (λ e. c.if-s-due.false (e ∙ sym (due c.args.s.now c.words_due-due.ensures.0 c.requires.0)))) (ap some (due c.args.s.now c.words_due-due.ensures.0 c.requires.0))
+    rw (ne_eqb (length b / 4) (words_due (header_of b)) (λ e. c.if-s-due.false (e ∙ sym (due c.args.s.now c.words_due-due.ensures.0 c.requires.0)))) (ap Some (due c.args.s.now c.words_due-due.ensures.0 c.requires.0))
 
 pub overflow_cast-result : goal.overflow_cast-result
 overflow_cast-result c = omega (arith, c.words_due-due.ensures.1)
