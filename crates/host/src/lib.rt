@@ -25,9 +25,11 @@ pub extern "C" fn hnho_solve(job: &[u8], patch: &mut [u8], account: &mut [u8]) -
         return 2;
     }
     let answer = kernel::solve(job, patch);
-    let found = answer.account;
-    encode::write(account, found);
-    answer.refusal as u64 + 256 * (answer.place as u64)
+    encode::write(account, kernel::told(answer));
+    match answer {
+        Ok(_) => 0,
+        Err(refusal) => refusal.packed(),
+    }
 }
 
 // Rates a train on a line, writes the report's bytes and packs refusal and place into one number, 0 for a rating. A refusal clears the report's bytes, as far as the buffer has them.

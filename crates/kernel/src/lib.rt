@@ -2,12 +2,12 @@
 #![tactic(auto)]
 
 ghost use Rattle.std.specs.Prelude.{◌≡◌};
-ghost use Rattle.model.specs.Answered.{refusal_answer, Answered};
+ghost use Rattle.model.specs.Answered.{account_in, Answered};
 
 use job::refusals;
 use line::pieces;
 use model::{
-    Account, Answer, Entry, Extreme, Lane, Part, Placement, Position, Side, State, Traffic,
+    Account, Answer, Entry, Extreme, Lane, Part, Placement, Position, Refusal, Side, Traffic,
 };
 use sections::header;
 
@@ -45,21 +45,20 @@ const ZERO_ACCOUNT: Account = Account {
     overload: ZERO_TRAFFIC,
     raising: ZERO_POSITION,
     lowering: ZERO_POSITION,
-    service: State::Absent,
-    ultimate: State::Absent,
+    service: None,
+    ultimate: None,
     first: 0,
     second: 0,
     walked: 0,
 };
 
-// The answer of a refusal.
-fn refused(number: u32, place: u32) -> Answer
-    ensures { result ≡ refusal_answer (record { number = number; place = place }) }
+// The account that a host is told of an answer: of a refusal it is zero throughout.
+pub fn told(answer: Answer) -> Account
+    ensures { result ≡ account_in answer }
 {
-    Answer {
-        refusal: number,
-        place,
-        account: ZERO_ACCOUNT,
+    match answer {
+        Ok(a) => a,
+        Err(_) => ZERO_ACCOUNT,
     }
 }
 
@@ -67,20 +66,15 @@ fn refused(number: u32, place: u32) -> Answer
 pub fn solve(job: &[u8], patch: &mut [u8]) -> Answer
     ensures { Answered job.now patch.old result patch.new }
 {
-    let v = refusals::verdict(job);
-    if v.number != 0 {
-        return refused(v.number, v.place);
-    }
+    refusals::verdict(job)?;
     let head = header::read(job);
     if patch.len() < head.pieces {
-        let n = head.pieces as u32;
-        return refused(9, n);
+        return Err(Refusal {
+            number: 9,
+            place: head.pieces as u32,
+        });
     }
-    let a = accepted::account(job, head);
+    let account = accepted::account(job, head);
     pieces::mark(sections::section(job, head, Part::Line), head.pieces, patch);
-    Answer {
-        refusal: 0,
-        place: 0,
-        account: a,
-    }
+    Ok(account)
 }
