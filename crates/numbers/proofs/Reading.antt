@@ -36,8 +36,8 @@ number_read zs rest fit k h =
     ap number_of (bytes_from zs rest k h) ∙ ap (to_z w64) (little_read 8 (of_z w64 z) (numbers_bytes (drop (suc k) zs) ++ rest) (Fits-of_z f).fits) ∙ to_z-of_z f
 
 -- numbers put at a buffer's front, n bytes of them: their bytes, the rest as it was; and a host reads them
-pub in_front : {w v : Cursor} {zs : List ℤ} {n : ℕ} → Written w zs v → w.at ≡ 0 → 8 * length zs ≡ n → n ≤ length w.out.now → (v.out.now ≡ numbers_bytes zs ++ drop n w.out.now) × ReadBack v.out.now zs
-in_front {w} {v} {zs} {n} h start size room =
+pub in_front : {w v : Cursor} {zs : List ℤ} {n : ℕ} {o : List ℕ} → Written w zs v → w.at ≡ 0 → 8 * length zs ≡ n → n ≤ length w.out.now → o ≡ v.out.now → (o ≡ numbers_bytes zs ++ drop n w.out.now) × ReadBack o zs
+in_front {w} {v} {zs} {n} {o} h start size room whole =
     let end : v.at ≡ n = omega (arith, h.ends) in
-    let is = subst (λ (k : ℕ). v.out.now ≡ numbers_bytes zs ++ drop k w.out.now) end (from_start h.bytes start (omega arith)) in
+    let is = whole ∙ subst (λ (k : ℕ). v.out.now ≡ numbers_bytes zs ++ drop k w.out.now) end (from_start h.bytes start (omega arith)) in
     (is, subst (λ (l : List ℕ). ReadBack l zs) (sym is) (number_read zs _ h.fit))
