@@ -1,3 +1,3 @@
 pub mod Stores
-pub mod Left
+pub mod Parts
 pub mod Little

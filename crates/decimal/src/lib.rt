@@ -1,87 +1,75 @@
-// Numbers as decimal text; specs/Decimal.antt says what the text is. Each `put_` function puts a text into `out` from `at` on and answers where it ends.
+// Numbers as decimal text; specs/Decimal.antt says what the text is. Each `put_` function puts a text where the cursor stands.
 #![tactic(auto)]
 
-ghost use Rattle.std.specs.Prelude.{◌≡◌, ◌++◌, ◌+◌, ◌≤◌, ◌<◌, nat_abs, length};
-ghost use Rattle.buffer.specs.Stored.{Stored};
+ghost use Rattle.std.specs.Prelude.{◌++◌, ◌+◌, ◌≤◌, ◌<◌, length};
+ghost use Rattle.buffer.specs.Stored.{HasRoom, Puts};
 ghost use Rattle.decimal.specs.Decimal.{digit, digits, decimal, signed};
 
+use buffer::Cursor;
+
 // A digit from 0 to 9.
-fn put_digit(out: &mut [u8], at: usize, d: u64) -> usize
-    requires at_in_bounds { at + 1 ≤ length out.old }
+fn put_digit(w: &mut Cursor, d: u64)
+    requires room { HasRoom 1 w.old }
     requires d_bound { d < 10 }
-    ensures { Stored out.old at (digit d) out.new result }
+    ensures { Puts w.old (digit d) w.new }
 {
-    out[at] = b'0' + d as u8;
-    at + 1
+    w.put(&[b'0' + d as u8]);
 }
 
 // The last `places` digits of a number, or all where it has fewer.
-fn put_digits(out: &mut [u8], at: usize, n: u64, places: usize) -> usize
-    requires { at + places ≤ length out.old }
-    ensures stored { Stored out.old at (digits places n) out.new result }
-    ensures upper_bound { result ≤ at + places }
+fn put_digits(w: &mut Cursor, n: u64, places: usize)
+    requires { HasRoom places w.old }
+    ensures puts { Puts w.old (digits places n) w.new }
+    ensures upper_bound { w.new.at ≤ w.old.at + places }
 {
     if places == 0 {
-        return at;
+        return;
     }
     if n < 10 {
-        return put_digit(out, at, n);
+        put_digit(w, n);
+        return;
     }
-    let last = put_digits(out, at, n / 10, places - 1);
-    put_digit(out, last, n % 10)
+    put_digits(w, n / 10, places - 1);
+    put_digit(w, n % 10);
 }
 
 // A number in decimal.
-fn put_decimal(out: &mut [u8], at: usize, n: u64) -> usize
-    requires { at + 20 ≤ length out.old }
-    ensures stored { Stored out.old at (decimal n) out.new result }
-    ensures upper_bound { result ≤ at + 20 }
+fn put_decimal(w: &mut Cursor, n: u64)
+    requires { HasRoom 20 w.old }
+    ensures puts { Puts w.old (decimal n) w.new }
+    ensures upper_bound { w.new.at ≤ w.old.at + 20 }
 {
-    put_digits(out, at, n, 20)
-}
-
-// A number without its sign.
-fn magnitude(v: i64) -> u64
-    ensures { result ≡ nat_abs v }
-{
-    if v < 0 {
-        let m = (-1 - v) as u64;
-        m + 1
-    } else {
-        v as u64
-    }
+    put_digits(w, n, 20);
 }
 
 // A number in decimal, with its sign.
-fn put_signed(out: &mut [u8], at: usize, v: i64) -> usize
-    requires { at + 21 ≤ length out.old }
-    ensures stored { Stored out.old at (signed v) out.new result }
-    ensures upper_bound { result ≤ at + 21 }
+fn put_signed(w: &mut Cursor, v: i64)
+    requires { HasRoom 21 w.old }
+    ensures puts { Puts w.old (signed v) w.new }
+    ensures upper_bound { w.new.at ≤ w.old.at + 21 }
 {
     if v < 0 {
-        let end = buffer::put_bytes(out, at, b"-");
-        put_decimal(out, end, magnitude(v))
-    } else {
-        put_decimal(out, at, magnitude(v))
+        w.put(b"-");
     }
+    put_decimal(w, v.unsigned_abs());
 }
 
 // A signed number after its label.
-pub fn put_value(out: &mut [u8], at: usize, label: &[u8], v: i64) -> usize
-    requires { at + length label.now + 21 ≤ length out.old }
-    ensures stored { Stored out.old at (label.now ++ signed v) out.new result }
-    ensures upper_bound { result ≤ at + length label.now + 21 }
+pub fn put_value(w: &mut Cursor, label: &[u8], v: i64)
+    requires { HasRoom (length label.now + 21) w.old }
+    ensures puts { Puts w.old (label.now ++ signed v) w.new }
+    ensures upper_bound { w.new.at ≤ w.old.at + length label.now + 21 }
 {
-    let end = buffer::put_bytes(out, at, label);
-    put_signed(out, end, v)
+    w.put(label);
+    put_signed(w, v);
 }
 
 // A natural number after its label.
-pub fn put_number(out: &mut [u8], at: usize, label: &[u8], n: u64) -> usize
-    requires { at + length label.now + 20 ≤ length out.old }
-    ensures stored { Stored out.old at (label.now ++ decimal n) out.new result }
-    ensures upper_bound { result ≤ at + length label.now + 20 }
+pub fn put_number(w: &mut Cursor, label: &[u8], n: u64)
+    requires { HasRoom (length label.now + 20) w.old }
+    ensures puts { Puts w.old (label.now ++ decimal n) w.new }
+    ensures upper_bound { w.new.at ≤ w.old.at + length label.now + 20 }
 {
-    let end = buffer::put_bytes(out, at, label);
-    put_decimal(out, end, n)
+    w.put(label);
+    put_decimal(w, n);
 }

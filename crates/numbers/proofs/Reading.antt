@@ -9,6 +9,7 @@ use lib.ListN.{length, get_or, drop}
 use mir.Syntax.{w64}
 use mir.Val.{SFits, to_z, of_z}
 use mir.Facts.{to_z-of_z, Fits-of_z}
+use Rattle.buffer.specs.declared.Cursor.{Cursor}
 use Rattle.buffer.proofs.Little.{little_read}
 use Rattle.buffer.proofs.Stores.{from_start}
 use Rattle.numbers.specs.NumberBytes.{number_bytes, numbers_bytes, AllFit, number_of, ReadBack, Written}
@@ -35,8 +36,8 @@ number_read zs rest fit k h =
     ap number_of (bytes_from zs rest k h) ∙ ap (to_z w64) (little_read 8 (of_z w64 z) (numbers_bytes (drop (suc k) zs) ++ rest) (Fits-of_z f).fits) ∙ to_z-of_z f
 
 -- numbers put at a buffer's front, n bytes of them: their bytes, the rest as it was; and a host reads them
-pub in_front : {s w : List ℕ} {zs : List ℤ} {r n : ℕ} → Written s 0 zs w r → 8 * length zs ≡ n → n ≤ length s → (w ≡ numbers_bytes zs ++ drop n s) × ReadBack w zs
-in_front {s} {w} {zs} {r} {n} h size room =
-    let end : r ≡ n = omega (arith, h.ends) in
-    let is = subst (λ (k : ℕ). w ≡ numbers_bytes zs ++ drop k s) end (from_start h.bytes (omega arith)) in
+pub in_front : {w v : Cursor} {zs : List ℤ} {n : ℕ} {o : List ℕ} → Written w zs v → w.at ≡ 0 → 8 * length zs ≡ n → n ≤ length w.out.now → o ≡ v.out.now → (o ≡ numbers_bytes zs ++ drop n w.out.now) × ReadBack o zs
+in_front {w} {v} {zs} {n} {o} h start size room whole =
+    let end : v.at ≡ n = omega (arith, h.ends) in
+    let is = whole ∙ subst (λ (k : ℕ). v.out.now ≡ numbers_bytes zs ++ drop k w.out.now) end (from_start h.bytes start (omega arith)) in
     (is, subst (λ (l : List ℕ). ReadBack l zs) (sym is) (number_read zs _ h.fit))

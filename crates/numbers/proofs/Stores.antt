@@ -8,7 +8,8 @@ use lib.ListN.{replicate, length-append, length-replicate, replicate-append-repl
 use mir.Syntax.{w64}
 use mir.Val.{SFits, to_z, of_z}
 use mir.Facts.{to_z-of_z}
-use Rattle.buffer.specs.Stored.{little_endian, Stored}
+use Rattle.buffer.specs.Stored.{little_endian, Puts}
+use Rattle.buffer.specs.declared.Cursor.{Cursor}
 use Rattle.buffer.proofs.Stores as stored
 use Rattle.numbers.specs.NumberBytes.{number_bytes, numbers_bytes, AllFit, Written}
 
@@ -21,14 +22,14 @@ fit_append : (xs ys : List ℤ) → AllFit xs → AllFit ys → AllFit (xs ++ ys
 fit_append [] ys f g = g
 fit_append (x ∷ xs) ys f g = (f.0, fit_append xs ys f.1 g)
 
-pub nothing : {s : List ℕ} (at : ℕ) → Written s at [] s at
+pub nothing : {w : Cursor} → Written w [] w
 unfolding numbers_bytes
-nothing at = record { ends = omega arith; bytes = stored.nothing at; fit = tt }
+nothing = record { ends = omega arith; bytes = stored.nothing; fit = tt }
 
 -- one number, by its bits
-pub one : {s w : List ℕ} {at x r : ℕ} (z : ℤ) → SFits w64 z → x ≡ of_z w64 z → Stored s at (little_endian 8 x) w r → Written s at (z ∷ []) w r
+pub one : {w v : Cursor} {x : ℕ} (z : ℤ) → SFits w64 z → x ≡ of_z w64 z → Puts w (little_endian 8 x) v → Written w (z ∷ []) v
 unfolding numbers_bytes
-one z f b h = record { ends = h.ends; bytes = stored.retold (ap (little_endian 8) b) h; fit = (f, tt) }
+one z f b h = record { ends = h.stored.ends; bytes = stored.retold (ap (little_endian 8) b) h; fit = (f, tt) }
 
 -- zeros, by their bytes
 zero_bytes : (n : ℕ) → replicate (8 * n) 0 ≡ numbers_bytes (replicate n (pos 0))
@@ -42,14 +43,14 @@ zeros_fit : (n : ℕ) → AllFit (replicate n (pos 0))
 zeros_fit zero = tt
 zeros_fit (suc n) = (record { sfits = omega arith }, zeros_fit n)
 
-pub zeros : {s w : List ℕ} {at r : ℕ} (n : ℕ) → Stored s at (replicate (8 * n) 0) w r → Written s at (replicate n (pos 0)) w r
+pub zeros : {w v : Cursor} (n : ℕ) → Puts w (replicate (8 * n) 0) v → Written w (replicate n (pos 0)) v
 zeros n h =
     let e = length-replicate {A = ℕ} (8 * n) 0 in
     let f = length-replicate n (pos 0) in
-    record { ends = omega (arith, h.ends); bytes = stored.retold (zero_bytes n) h; fit = zeros_fit n }
+    record { ends = omega (arith, h.stored.ends); bytes = stored.retold (zero_bytes n) h; fit = zeros_fit n }
 
 -- more numbers from where the first end
-pub and_then : {s w v : List ℕ} {at p r : ℕ} {xs ys : List ℤ} → Written s at xs w p → Written w p ys v r → Written s at (xs ++ ys) v r
+pub and_then : {w v u : Cursor} {xs ys : List ℤ} → Written w xs v → Written v ys u → Written w (xs ++ ys) u
 and_then {xs = xs} {ys = ys} first next =
     record {
       ends = omega (arith, first.ends, next.ends, length-append xs ys);
@@ -58,11 +59,11 @@ and_then {xs = xs} {ys = ys} first next =
     }
 
 -- the same numbers, said otherwise: any; a natural one; one that was read back from its bits
-pub retold : {s w : List ℕ} {at r : ℕ} {xs ys : List ℤ} → xs ≡ ys → Written s at xs w r → Written s at ys w r
-retold {s} {w} {at} {r} e h = subst (λ (zs : List ℤ). Written s at zs w r) e h
+pub retold : {w v : Cursor} {xs ys : List ℤ} → xs ≡ ys → Written w xs v → Written w ys v
+retold {w} {v} e h = subst (λ (zs : List ℤ). Written w zs v) e h
 
-pub natural : {s w : List ℕ} {at r m n : ℕ} → m ≡ n → Written s at (pos m ∷ []) w r → Written s at (pos n ∷ []) w r
+pub natural : {w v : Cursor} {m n : ℕ} → m ≡ n → Written w (pos m ∷ []) v → Written w (pos n ∷ []) v
 natural e h = retold (ap (λ (k : ℕ). pos k ∷ []) e) h
 
-pub signed : {s w : List ℕ} {at r : ℕ} {z : ℤ} → SFits w64 z → Written s at (to_z w64 (of_z w64 z) ∷ []) w r → Written s at (z ∷ []) w r
+pub signed : {w v : Cursor} {z : ℤ} → SFits w64 z → Written w (to_z w64 (of_z w64 z) ∷ []) v → Written w (z ∷ []) v
 signed f h = retold (ap (λ (y : ℤ). y ∷ []) (to_z-of_z f)) h

@@ -2,7 +2,8 @@
 use Rattle.std.specs.Prelude.{◌≡◌, ℕ, ◌+◌, ◌*◌, ◌<◌, List, [], ◌∷◌, ◌++◌, ℤ, pos, length, get_or, drop}
 use Rattle.std.specs.Int.{w64}
 use Rattle.std.proofs.Common.{SFits, to_z, of_z}
-use Rattle.buffer.specs.Stored.{little_endian, from_little_endian, Stored}
+use Rattle.buffer.specs.Stored.{little_endian, from_little_endian, Puts}
+use Rattle.buffer.specs.declared.Cursor.{Cursor}
 
 -- the eight bytes of a number in two's complement, lowest first
 abbrev pub number_bytes : ℤ → List ℕ
@@ -26,8 +27,8 @@ number_of s = to_z w64 (from_little_endian 8 s)
 abbrev pub ReadBack : (bytes : List ℕ) → List ℤ → Type 0
 ReadBack bytes numbers = (k : ℕ) → k < length numbers → number_of (drop (8 * k) bytes) ≡ get_or numbers k (pos 0)
 
--- a buffer before and after numbers that 64 bits hold were put from `at` to `end`
-pub record Written (before : List ℕ) (at : ℕ) (numbers : List ℤ) (after : List ℕ) (end : ℕ) : Type 0 where
-  pub ends : end ≡ at + 8 * length numbers
-  pub bytes : Stored before at (numbers_bytes numbers) after end
+-- a cursor before and after numbers that 64 bits hold were put
+pub record Written (before : Cursor) (numbers : List ℤ) (after : Cursor) : Type 0 where
+  pub ends : after.at ≡ before.at + 8 * length numbers
+  pub bytes : Puts before (numbers_bytes numbers) after
   pub fit : AllFit numbers

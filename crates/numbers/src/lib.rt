@@ -1,39 +1,33 @@
-// Numbers as bytes, eight each, in two's complement, lowest byte first. Each `put_` function puts numbers into `out` from `at` on and answers where they end.
+// Numbers as bytes, eight each, in two's complement, lowest byte first. Each `put_` function puts numbers where the cursor stands.
 #![tactic(auto)]
 
-ghost use Rattle.std.specs.Prelude.{◌≡◌, [], ◌∷◌, ◌+◌, ◌*◌, ◌^◌, ◌≤◌, ◌<◌, pos, length, replicate};
-ghost use Rattle.std.specs.Int.{w64};
-ghost use Rattle.std.proofs.Common.{of_z};
+ghost use Rattle.std.specs.Prelude.{[], ◌∷◌, ◌*◌, ◌^◌, ◌<◌, pos, replicate};
+ghost use Rattle.buffer.specs.Stored.{HasRoom};
 ghost use Rattle.numbers.specs.NumberBytes.{Written};
 
-// The 64 bits of a signed number.
-fn bits_of(v: i64) -> u64
-    ensures { result ≡ of_z w64 v }
-{
-    if v < 0 { !((!v) as u64) } else { v as u64 }
-}
+use buffer::Cursor;
 
 // A signed number.
-pub fn put_signed(out: &mut [u8], at: usize, v: i64) -> usize
-    requires { at + 8 ≤ length out.old }
-    ensures { Written out.old at (v ∷ []) out.new result }
+pub fn put_signed(w: &mut Cursor, v: i64)
+    requires { HasRoom 8 w.old }
+    ensures { Written w.old (v ∷ []) w.new }
 {
-    buffer::put_bits(out, at, bits_of(v))
+    w.put_number(v.cast_unsigned());
 }
 
 // A number below 2^63, which reads back the same with a sign.
-pub fn put_count(out: &mut [u8], at: usize, x: u64) -> usize
-    requires at_in_bounds { at + 8 ≤ length out.old }
+pub fn put_count(w: &mut Cursor, x: u64)
+    requires room { HasRoom 8 w.old }
     requires x_bound { x < 2 ^ 63 }
-    ensures { Written out.old at (pos x ∷ []) out.new result }
+    ensures { Written w.old (pos x ∷ []) w.new }
 {
-    buffer::put_bits(out, at, x)
+    w.put_number(x);
 }
 
 // So many zeros.
-pub fn put_zeros(out: &mut [u8], at: usize, n: usize) -> usize
-    requires { at + 8 * n ≤ length out.old }
-    ensures { Written out.old at (replicate n (pos 0)) out.new result }
+pub fn put_zeros(w: &mut Cursor, n: usize)
+    requires { HasRoom (8 * n) w.old }
+    ensures { Written w.old (replicate n (pos 0)) w.new }
 {
-    buffer::put_zeros(out, at, 8 * n)
+    w.put_zeros(8 * n);
 }

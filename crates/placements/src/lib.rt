@@ -1,12 +1,14 @@
-// An account's placements as numbers of eight bytes each. Each `put_` function puts numbers into `out` from `at` on and answers where they end.
+// An account's placements as numbers of eight bytes each. Each `put_` function puts numbers where the cursor stands.
 #![tactic(auto)]
 
-ghost use Rattle.std.specs.Prelude.{◌≡◌, ◌+◌, ◌≤◌, ◌<◌, length};
+ghost use Rattle.std.specs.Prelude.{◌≡◌, ◌<◌};
+ghost use Rattle.buffer.specs.Stored.{HasRoom};
 ghost use Rattle.model.specs.Numbers.{side_number, entry_number};
 ghost use Rattle.model.specs.declared.Entry.TheVariants.{Hn, Ho};
 ghost use Rattle.numbers.specs.NumberBytes.{Written};
-ghost use Rattle.placements.specs.PlacementNumbers.{lane_numbers, lanes_numbers, placement_numbers, placements_numbers};
+ghost use Rattle.placements.specs.PlacementNumbers.{lane_numbers, placement_numbers, placements_numbers};
 
+use buffer::Cursor;
 use model::{Entry, Lane, Placement, Sense, Side, Traffic};
 
 // 0 left, 1 right.
@@ -51,47 +53,31 @@ fn entry_number(e: Entry) -> u64
 }
 
 // A lane's entry, its centre and its factor.
-fn put_lane(out: &mut [u8], at: usize, l: Lane) -> usize
-    requires { at + 24 ≤ length out.old }
-    ensures { Written out.old at (lane_numbers l) out.new result }
+fn put_lane(w: &mut Cursor, l: Lane)
+    requires { HasRoom 24 w.old }
+    ensures { Written w.old (lane_numbers l) w.new }
 {
-    let entry = l.entry;
-    let mut end = numbers::put_count(out, at, entry_number(entry));
-    end = numbers::put_count(out, end, l.centre as u64);
-    numbers::put_count(out, end, l.factor as u64)
-}
-
-// The lanes of a placement.
-fn put_lanes(out: &mut [u8], at: usize, p: Placement) -> usize
-    requires { at + 240 ≤ length out.old }
-    ensures { Written out.old at (lanes_numbers p 10) out.new result }
-{
-    let mut end = at;
-    for i in 0..10 {
-        let lane = p.lanes[i];
-        end = put_lane(out, end, lane);
-    }
-    end
+    numbers::put_count(w, entry_number(l.entry));
+    numbers::put_count(w, l.centre as u64);
+    numbers::put_count(w, l.factor as u64);
 }
 
 // A lane set and the lanes.
-fn put_placement(out: &mut [u8], at: usize, p: Placement) -> usize
-    requires { at + 248 ≤ length out.old }
-    ensures { Written out.old at (placement_numbers p) out.new result }
+fn put_placement(w: &mut Cursor, p: Placement)
+    requires { HasRoom 248 w.old }
+    ensures { Written w.old (placement_numbers p) w.new }
 {
-    let end = numbers::put_count(out, at, p.set as u64);
-    put_lanes(out, end, p)
+    numbers::put_count(w, p.set as u64);
+    for lane in p.lanes {
+        put_lane(w, lane);
+    }
 }
 
 // The placements of the two values of a live kind.
-pub fn put_placements(out: &mut [u8], at: usize, t: Traffic) -> usize
-    requires { at + 496 ≤ length out.old }
-    ensures { Written out.old at (placements_numbers t) out.new result }
+pub fn put_placements(w: &mut Cursor, t: Traffic)
+    requires { HasRoom 496 w.old }
+    ensures { Written w.old (placements_numbers t) w.new }
 {
-    let greatest = t.greatest;
-    let least = t.least;
-    let first = greatest.placement;
-    let second = least.placement;
-    let end = put_placement(out, at, first);
-    put_placement(out, end, second)
+    put_placement(w, t.greatest.placement);
+    put_placement(w, t.least.placement);
 }

@@ -1,88 +1,53 @@
-// What the programs print of an answer; specs/Text.antt says what the text is. Each `put_` function puts a text into `out` from `at` on and answers where it ends.
+// What the programs print of an answer; specs/Text.antt says what the text is. Each `put_` function puts a text where the cursor stands.
 #![tactic(auto)]
 
 ghost use Rattle.std.specs.Prelude.{◌≡◌, ◌++◌, ◌+◌, ◌≤◌, length, take, drop};
-ghost use Rattle.buffer.specs.Stored.{Stored};
-ghost use Rattle.print.specs.Text.{report, traffic_line, governing_text, state_line, account_text, refusal_line, answer_text};
+ghost use Rattle.buffer.specs.Stored.{HasRoom, Puts};
+ghost use Rattle.print.specs.Text.{traffic_line, governing_text, state_line, answer_text};
 
+use buffer::Cursor;
 use model::{Account, Answer, Governing, State, Traffic};
 
 // Room for every answer's text.
 pub const SIZE: usize = 384;
 
 // A live kind's line, in N·U.
-fn put_traffic(out: &mut [u8], at: usize, name: &[u8], t: Traffic) -> usize
-    requires { at + length name.now + 60 ≤ length out.old }
-    ensures stored { Stored out.old at (traffic_line name.now t) out.new result }
-    ensures upper_bound { result ≤ at + length name.now + 60 }
+fn put_traffic(w: &mut Cursor, name: &[u8], t: Traffic)
+    requires { HasRoom (length name.now + 60) w.old }
+    ensures puts { Puts w.old (traffic_line name.now t) w.new }
+    ensures upper_bound { w.new.at ≤ w.old.at + length name.now + 60 }
 {
-    let g = t.greatest;
-    let l = t.least;
-    let mut end = buffer::put_bytes(out, at, name);
-    end = decimal::put_value(out, end, b" greatest ", g.value);
-    end = decimal::put_value(out, end, b" least ", l.value);
-    buffer::put_bytes(out, end, b"\n")
+    w.put(name);
+    decimal::put_value(w, b" greatest ", t.greatest.value);
+    decimal::put_value(w, b" least ", t.least.value);
+    w.put(b"\n");
 }
 
 // A value with its row after a label, in thousandths of N·U.
-fn put_governing(out: &mut [u8], at: usize, label: &[u8], g: Governing) -> usize
-    requires { at + length label.now + 46 ≤ length out.old }
-    ensures stored { Stored out.old at (label.now ++ governing_text g) out.new result }
-    ensures upper_bound { result ≤ at + length label.now + 46 }
+fn put_governing(w: &mut Cursor, label: &[u8], g: Governing)
+    requires { HasRoom (length label.now + 46) w.old }
+    ensures puts { Puts w.old (label.now ++ governing_text g) w.new }
+    ensures upper_bound { w.new.at ≤ w.old.at + length label.now + 46 }
 {
-    let end = decimal::put_value(out, at, label, g.value);
-    decimal::put_number(out, end, b" row ", g.row as u64)
+    decimal::put_value(w, label, g.value);
+    decimal::put_number(w, b" row ", g.row as u64);
 }
 
-// A reported limit state's greatest and least.
-fn put_reported(out: &mut [u8], at: usize, greatest: Governing, least: Governing) -> usize
-    requires { at + 110 ≤ length out.old }
-    ensures stored { Stored out.old at (report (governing_text greatest) (governing_text least)) out.new result }
-    ensures upper_bound { result ≤ at + 110 }
+// A limit state's line: its greatest and least where it is reported.
+fn put_state(w: &mut Cursor, name: &[u8], s: State)
+    requires { HasRoom (length name.now + 110) w.old }
+    ensures puts { Puts w.old (state_line name.now s) w.new }
+    ensures upper_bound { w.new.at ≤ w.old.at + length name.now + 110 }
 {
-    let mut end = put_governing(out, at, b" greatest ", greatest);
-    end = put_governing(out, end, b" least ", least);
-    buffer::put_bytes(out, end, b"\n")
-}
-
-// A limit state's line.
-fn put_state(out: &mut [u8], at: usize, name: &[u8], s: State) -> usize
-    requires { at + length name.now + 110 ≤ length out.old }
-    ensures stored { Stored out.old at (state_line name.now s) out.new result }
-    ensures upper_bound { result ≤ at + length name.now + 110 }
-{
-    let end = buffer::put_bytes(out, at, name);
+    w.put(name);
     match s {
-        State::Absent => buffer::put_bytes(out, end, b" none\n"),
-        State::Reported { greatest, least } => put_reported(out, end, greatest, least),
+        State::Absent => w.put(b" none\n"),
+        State::Reported { greatest, least } => {
+            put_governing(w, b" greatest ", greatest);
+            put_governing(w, b" least ", least);
+            w.put(b"\n");
+        }
     }
-}
-
-// The four lines of an accepted job.
-fn put_account(out: &mut [u8], a: Account) -> usize
-    requires { 384 ≤ length out.old }
-    ensures stored { Stored out.old 0 (account_text a) out.new result }
-    ensures upper_bound { result ≤ 384 }
-{
-    let normal = a.normal;
-    let overload = a.overload;
-    let service = a.service;
-    let ultimate = a.ultimate;
-    let mut end = put_traffic(out, 0, b"normal", normal);
-    end = put_traffic(out, end, b"overload", overload);
-    end = put_state(out, end, b"service", service);
-    put_state(out, end, b"ultimate", ultimate)
-}
-
-// The line of a refused job.
-fn put_refusal(out: &mut [u8], number: u32, place: u32) -> usize
-    requires { 384 ≤ length out.old }
-    ensures stored { Stored out.old 0 (refusal_line number place) out.new result }
-    ensures upper_bound { result ≤ 384 }
-{
-    let mut end = decimal::put_number(out, 0, b"refused ", number as u64);
-    end = decimal::put_number(out, end, b" at ", place as u64);
-    buffer::put_bytes(out, end, b"\n")
 }
 
 // Puts an answer's text at the start of a buffer, leaves the rest of it as it was, and answers the text's length. The first clause serves a caller that lends `&out[..r]`.
@@ -91,9 +56,16 @@ pub fn text(a: Answer, out: &mut [u8; SIZE]) -> usize
     ensures value { result ≡ length (answer_text a) }
     ensures out_after { out.new ≡ answer_text a ++ drop result out.old }
 {
+    let mut w = Cursor { out, at: 0 };
     if a.refusal != 0 {
-        return put_refusal(out, a.refusal, a.place);
+        decimal::put_number(&mut w, b"refused ", a.refusal as u64);
+        decimal::put_number(&mut w, b" at ", a.place as u64);
+        w.put(b"\n");
+        return w.at;
     }
-    let account = a.account;
-    put_account(out, account)
+    put_traffic(&mut w, b"normal", a.account.normal);
+    put_traffic(&mut w, b"overload", a.account.overload);
+    put_state(&mut w, b"service", a.account.service);
+    put_state(&mut w, b"ultimate", a.account.ultimate);
+    w.at
 }

@@ -1,12 +1,14 @@
 // A rating as bytes for a host: nine numbers of eight bytes each, in two's complement, lowest byte first, in the order of `report_numbers`.
 #![tactic(auto)]
 
-ghost use Rattle.std.specs.Prelude.{◌≡◌, ◌++◌, ◌+◌, ◌≤◌, ◌<◌, length, drop};
+ghost use Rattle.std.specs.Prelude.{◌≡◌, ◌++◌, ◌≤◌, ◌<◌, length, drop};
+ghost use Rattle.buffer.specs.Stored.{HasRoom};
 ghost use Rattle.model.specs.Numbers.{way_number};
 ghost use Rattle.model.specs.Trains.{report_size};
 ghost use Rattle.numbers.specs.NumberBytes.{numbers_bytes, Written, ReadBack};
 ghost use Rattle.reports.specs.ReportNumbers.{stand_numbers, report_numbers};
 
+use buffer::Cursor;
 use model::{Rating, TrainExtreme, Way};
 
 // The bytes of a report.
@@ -23,15 +25,13 @@ fn way_number(w: Way) -> u64
 }
 
 // A stand.
-fn put_stand(out: &mut [u8], at: usize, x: TrainExtreme) -> usize
-    requires { at + 24 ≤ length out.old }
-    ensures { Written out.old at (stand_numbers x) out.new result }
+fn put_stand(w: &mut Cursor, x: TrainExtreme)
+    requires { HasRoom 24 w.old }
+    ensures { Written w.old (stand_numbers x) w.new }
 {
-    let way = x.way;
-    let side = x.side;
-    let mut end = numbers::put_count(out, at, way_number(way));
-    end = numbers::put_count(out, end, placements::side_number(side));
-    numbers::put_signed(out, end, x.station)
+    numbers::put_count(w, way_number(x.way));
+    numbers::put_count(w, placements::side_number(x.side));
+    numbers::put_signed(w, x.station);
 }
 
 // The bytes of a report at the front of a buffer; the rest keeps its contents.
@@ -39,11 +39,10 @@ pub fn write(out: &mut [u8], r: Rating)
     requires { report_size ≤ length out.old }
     ensures { (out.new ≡ numbers_bytes (report_numbers r) ++ drop report_size out.old) × ReadBack out.new (report_numbers r) }
 {
-    let greatest = r.greatest;
-    let least = r.least;
-    let mut end = numbers::put_signed(out, 0, greatest.value);
-    end = numbers::put_signed(out, end, least.value);
-    end = numbers::put_signed(out, end, r.difference);
-    end = put_stand(out, end, greatest);
-    put_stand(out, end, least);
+    let mut w = Cursor { out, at: 0 };
+    numbers::put_signed(&mut w, r.greatest.value);
+    numbers::put_signed(&mut w, r.least.value);
+    numbers::put_signed(&mut w, r.difference);
+    put_stand(&mut w, r.greatest);
+    put_stand(&mut w, r.least);
 }

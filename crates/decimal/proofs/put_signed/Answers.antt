@@ -1,19 +1,15 @@
 use mathlib.Core.Path.{ap, ◌∙◌}
-use native.Mathlib.Omega.{arith}
 use mir.Facts.{to_z-of_z}
 use Rattle.decimal.specs.Decimal.{decimal, signed}
 use Rattle.buffer.proofs.Stores.{and_then, retold}
 use Rattle.decimal.proofs.Signs.{signed_below, signed_above}
 use Rattle.decimal.proofs.put_signed.Goals as goal
+use Rattle.decimal.proofs.put_signed.Goals.{then-v-lt0, else-v-lt0}
 
-pub returns-then-v-lt0 : goal.returns-then-v-lt0
-returns-then-v-lt0 c =
-    let number = retold (ap decimal c.magnitude.ensures) c.put_decimal.ensures.stored in
-    let e = signed_below _ c.if-v-lt0.true ∙ ap signed (to_z-of_z c.ranges.v) in
-    record { stored = retold e (and_then c.put_bytes-end.ensures number); upper_bound = omega (arith, c.put_bytes-end.ensures.ends, c.put_decimal.ensures.upper_bound) }
-
-pub returns-else-v-lt0 : goal.returns-else-v-lt0
-returns-else-v-lt0 c =
-    let number = retold (ap decimal c.magnitude-else-v-lt0.ensures) c.put_decimal-else-v-lt0.ensures.stored in
-    let e = signed_above _ c.if-v-lt0.false ∙ ap signed (to_z-of_z c.ranges.v) in
-    record { stored = retold e number; upper_bound = omega arith }
+pub returns-clause-puts : goal.returns-clause-puts
+returns-clause-puts c =
+    let number = retold (ap decimal c.unsigned_abs.ensures.value) c.put_decimal.ensures.puts in
+    elim c.if-v-lt0.branch [
+      | then-v-lt0 w ↦ retold (signed_below _ w.if-v-lt0.true ∙ ap signed (to_z-of_z c.ranges.v)) (and_then w.put.ensures (rw w.w-is at number))
+      | else-v-lt0 w ↦ retold (signed_above _ w.if-v-lt0.false ∙ ap signed (to_z-of_z c.ranges.v)) (rw w.w-is at number)
+    ]

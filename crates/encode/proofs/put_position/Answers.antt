@@ -6,6 +6,5 @@ use Rattle.encode.proofs.put_position.Goals as goal
 
 pub returns : goal.returns
 returns c =
-    let p = c.args.p in
-    let f : SFits w64 p.station = search rules in
-    and_then (signed f c.put_signed-end.ensures) (natural c.side_number.ensures.0 c.put_count.ensures)
+    let f : SFits w64 c.args.p.station = search rules in
+    and_then (signed f c.put_signed.ensures) (natural c.side_number.ensures.0 c.put_count.ensures)

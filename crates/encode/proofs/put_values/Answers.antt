@@ -9,4 +9,4 @@ returns c =
     let t = c.args.t in
     let g : SFits w64 t.greatest.value = search rules in
     let l : SFits w64 t.least.value = search rules in
-    and_then (signed g c.put_signed-end.ensures) (signed l c.put_signed.ensures)
+    and_then (signed g c.put_signed.ensures) (signed l c.put_signed-2.ensures)

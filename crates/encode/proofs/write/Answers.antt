@@ -1,22 +1,18 @@
+use mathlib.Core.Path.{refl}
 use native.Mathlib.Omega.{arith}
-use lib.ListN.{length-append}
-use Rattle.encode.specs.Encoding.{limit_numbers}
+use borrow.Author.Rules.{rules}
 use Rattle.numbers.proofs.Stores.{and_then}
 use Rattle.numbers.proofs.Reading.{in_front}
-use Rattle.encode.proofs.Sizes.{limit_length, account_count_lem}
+use Rattle.encode.specs.Encoding.{account_numbers}
+use Rattle.encode.proofs.Sizes.{account_count_lem}
 use Rattle.encode.proofs.write.Goals as goal
-
-pub put_counts-requires : goal.put_counts-requires
-put_counts-requires c =
-    let a = c.args.a in
-    let n = limit_length a.service in
-    let m = limit_length a.ultimate in
-    let both = length-append (limit_numbers a.service) (limit_numbers a.ultimate) in
-    record { at_in_bounds = omega (arith, c.put_states-end.ensures.ends); first_bound = (c.requires.counts_fit.first, c.requires.counts_fit.second, c.requires.counts_fit.walked) }
 
 pub returns : goal.returns
 returns c =
-    let placements = and_then (and_then c.put_traffic-end.ensures c.put_placements-end.ensures) c.put_placements-end-2.ensures in
-    let whole = and_then (and_then placements c.put_states-end.ensures) c.put_counts.ensures in
-    let w = in_front whole (omega (arith, account_count_lem c.args.a)) c.requires.account_size_in_bounds in
-    record { out_after = w.0; read_back = w.1 }
+    let values = and_then c.put_values.ensures c.put_values-2.ensures in
+    let traffic = and_then (and_then values c.put_position.ensures) c.put_position-2.ensures in
+    let placements = and_then (and_then traffic c.put_placements.ensures) c.put_placements-2.ensures in
+    let states = and_then c.put_state.ensures c.put_state-2.ensures in
+    let counts = and_then (and_then c.put_count.ensures c.put_count-2.ensures) c.put_count-3.ensures in
+    let front = in_front {zs = account_numbers c.args.a} (and_then (and_then placements states) counts) refl (omega (arith, account_count_lem c.args.a)) c.requires.account_size_in_bounds (search rules) in
+    record { out_after = front.0; read_back = front.1 }

@@ -6,6 +6,4 @@ use Rattle.numbers.proofs.Stores.{one}
 use Rattle.numbers.proofs.put_signed.Goals as goal
 
 pub returns : goal.returns
-returns c =
-    let bits = c.bits_of.ensures ∙ ap (of_z w64) (to_z-of_z c.ranges.v) in
-    one c.args.v c.ranges.v bits c.put_bits.ensures
+returns c = one c.args.v c.ranges.v (c.cast_unsigned.ensures ∙ ap (of_z w64) (to_z-of_z c.ranges.v)) c.put_number.ensures

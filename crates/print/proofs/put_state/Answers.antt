@@ -1,13 +1,13 @@
 use mathlib.Core.Path.{sym, ap}
-use native.Mathlib.Omega.{arith}
 use Rattle.buffer.proofs.Stores.{and_then, retold}
 use Rattle.print.specs.Text.{state_line}
 use Rattle.print.proofs.put_state.Goals as goal
 
-pub returns-in-Absent : goal.returns-in-Absent
-returns-in-Absent c =
-    record { stored = retold (ap (state_line _) (sym c.in-Absent.is)) (and_then c.put_bytes-end.ensures c.put_bytes.ensures); upper_bound = omega (arith, c.put_bytes-end.ensures.ends, c.put_bytes.ensures.ends) }
+pub returns-in-Absent-clause-puts : goal.returns-in-Absent-clause-puts
+returns-in-Absent-clause-puts c =
+    retold (ap (state_line _) (sym c.in-Absent.is)) (and_then c.put.ensures c.put-in-Absent.ensures)
 
-pub returns-in-Reported : goal.returns-in-Reported
-returns-in-Reported c =
-    record { stored = retold (ap (state_line _) (sym c.in-Reported.is)) (and_then c.put_bytes-end.ensures c.put_reported.ensures.stored); upper_bound = omega (arith, c.put_bytes-end.ensures.ends, c.put_reported.ensures.upper_bound) }
+pub returns-in-Reported-clause-puts : goal.returns-in-Reported-clause-puts
+returns-in-Reported-clause-puts c =
+    let both = and_then c.put_governing.ensures.puts c.put_governing-in-Reported.ensures.puts in
+    retold (ap (state_line _) (sym c.in-Reported.is)) (and_then c.put.ensures (and_then both c.put-in-Reported.ensures))
