@@ -3,14 +3,14 @@ use mathlib.Core.Path.{◌≡◌, refl}
 use mathlib.Core.List.{◌++◌}
 use native.Mathlib.Omega.{arith}
 use lib.ListN.{length, length-append}
-use Rattle.model.specs.declared.State.{State}
-use Rattle.model.specs.declared.State.TheVariants.{Absent, Reported}
+use Rattle.std.specs.Prelude.{None, Some}
+use Rattle.model.specs.Answers.{State}
 use Rattle.model.specs.declared.Account.{Account}
 use Rattle.encode.specs.Encoding.{account_count, limit_numbers, count_numbers, account_numbers}
 
 pub limit_length : (s : State) → length (limit_numbers s) ≡ 11
-limit_length Absent = refl
-limit_length (Reported greatest least) = refl
+limit_length None = refl
+limit_length (Some x) = refl
 
 pub account_count_lem : (a : Account) → length (account_numbers a) ≡ account_count
 account_count_lem a =

@@ -5,10 +5,9 @@ use Rattle.numbers.specs.NumberBytes.{numbers_bytes}
 use Rattle.placements.specs.PlacementNumbers.{placements_numbers}
 use Rattle.model.specs.Numbers.{side_number, state_number}
 use Rattle.model.specs.declared.Position.{Position}
-use Rattle.model.specs.declared.Traffic.{Traffic}
+use Rattle.std.specs.Prelude.{None, Some}
+use Rattle.model.specs.Answers.{Traffic, State}
 use Rattle.model.specs.declared.Governing.{Governing}
-use Rattle.model.specs.declared.State.{State}
-use Rattle.model.specs.declared.State.TheVariants.{Absent, Reported}
 use Rattle.model.specs.declared.Account.{Account}
 
 -- the number of this layout, as a host asks for it
@@ -46,8 +45,8 @@ governing_numbers g = g.value ∷ pos g.row ∷ pos g.omitted ∷ pos (flag_numb
 
 -- whether a limit state is reported, its greatest and its least; zeros for none
 abbrev pub limit_numbers : State → List ℤ
-limit_numbers Absent = pos (state_number Absent) ∷ replicate 10 (pos 0)
-limit_numbers (Reported greatest least) = pos (state_number (Reported greatest least)) ∷ governing_numbers greatest ++ governing_numbers least
+limit_numbers None = pos (state_number None) ∷ replicate 10 (pos 0)
+limit_numbers (Some x) = pos (state_number (Some x)) ∷ governing_numbers x.greatest ++ governing_numbers x.least
 
 -- the lanes of the carriageway and of a second one; the records walked
 abbrev pub count_numbers : Account → List ℤ
@@ -66,8 +65,8 @@ account_bytes a = numbers_bytes (account_numbers a)
 
 -- a limit state's rows are read back as they are by a reader of signed numbers
 abbrev pub RowsFit : State → Type 0
-RowsFit Absent = Unit {0}
-RowsFit (Reported greatest least) = (greatest.row < 2 ^ 63) × (least.row < 2 ^ 63)
+RowsFit None = Unit {0}
+RowsFit (Some x) = (x.greatest.row < 2 ^ 63) × (x.least.row < 2 ^ 63)
 
 -- both states' rows, the numbers of lanes and the records walked are read back as they are
 pub record CountsFit (a : Account) : Type 0 where

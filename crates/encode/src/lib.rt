@@ -30,7 +30,7 @@ fn put_position(w: &mut Cursor, p: Position)
     ensures { Written w.old (position_numbers p) w.new }
 {
     numbers::put_signed(w, p.station);
-    numbers::put_count(w, placements::side_number(p.side));
+    numbers::put_count(w, u64::from(p.side));
 }
 
 // A limit state's value, its row, the effects left out, whether the traffic is, and k.
@@ -53,11 +53,11 @@ fn put_state(w: &mut Cursor, s: State)
     ensures { Written w.old (limit_numbers s) w.new }
 {
     match s {
-        State::Absent => numbers::put_zeros(w, 11),
-        State::Reported { greatest, least } => {
+        None => numbers::put_zeros(w, 11),
+        Some(x) => {
             numbers::put_count(w, 1);
-            put_governing(w, greatest);
-            put_governing(w, least);
+            put_governing(w, x.greatest);
+            put_governing(w, x.least);
         }
     }
 }

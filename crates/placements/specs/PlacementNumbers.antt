@@ -4,7 +4,7 @@ use Rattle.model.specs.Numbers.{entry_number}
 use Rattle.model.specs.Answered.{lane_at}
 use Rattle.model.specs.declared.Lane.{Lane}
 use Rattle.model.specs.declared.Placement.{Placement}
-use Rattle.model.specs.declared.Traffic.{Traffic}
+use Rattle.model.specs.Answers.{Traffic}
 
 -- a lane's entry, its centre and its factor in twentieths
 abbrev pub lane_numbers : Lane → List ℤ

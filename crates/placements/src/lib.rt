@@ -1,63 +1,19 @@
 // An account's placements as numbers of eight bytes each. Each `put_` function puts numbers where the cursor stands.
 #![tactic(auto)]
 
-ghost use Rattle.std.specs.Prelude.{◌≡◌, ◌<◌};
 ghost use Rattle.buffer.specs.Stored.{HasRoom};
-ghost use Rattle.model.specs.Numbers.{side_number, entry_number};
-ghost use Rattle.model.specs.declared.Entry.TheVariants.{Hn, Ho};
 ghost use Rattle.numbers.specs.NumberBytes.{Written};
 ghost use Rattle.placements.specs.PlacementNumbers.{lane_numbers, placement_numbers, placements_numbers};
 
 use buffer::Cursor;
-use model::{Entry, Lane, Placement, Sense, Side, Traffic};
-
-// 0 left, 1 right.
-pub fn side_number(s: Side) -> u64
-    ensures { (result ≡ side_number s) × (result < 2) }
-{
-    match s {
-        Side::Left => 0,
-        Side::Right => 1,
-    }
-}
-
-// 1 HN raising, 2 HN lowering.
-fn hn_number(s: Sense) -> u64
-    ensures { (result ≡ entry_number (Hn s)) × (result < 5) }
-{
-    match s {
-        Sense::Raising => 1,
-        Sense::Lowering => 2,
-    }
-}
-
-// 3 HO raising, 4 HO lowering.
-fn ho_number(s: Sense) -> u64
-    ensures { (result ≡ entry_number (Ho s)) × (result < 5) }
-{
-    match s {
-        Sense::Raising => 3,
-        Sense::Lowering => 4,
-    }
-}
-
-// 0 for an unloaded lane.
-fn entry_number(e: Entry) -> u64
-    ensures { (result ≡ entry_number e) × (result < 5) }
-{
-    match e {
-        Entry::Unloaded => 0,
-        Entry::Hn(s) => hn_number(s),
-        Entry::Ho(s) => ho_number(s),
-    }
-}
+use model::{Lane, Placement, Traffic};
 
 // A lane's entry, its centre and its factor.
 fn put_lane(w: &mut Cursor, l: Lane)
     requires { HasRoom 24 w.old }
     ensures { Written w.old (lane_numbers l) w.new }
 {
-    numbers::put_count(w, entry_number(l.entry));
+    numbers::put_count(w, u64::from(l.entry));
     numbers::put_count(w, l.centre as u64);
     numbers::put_count(w, l.factor as u64);
 }

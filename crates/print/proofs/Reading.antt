@@ -10,12 +10,11 @@ use lib.Dec.{ltb, eqb}
 use lib.IntN.{ℤ, pos, negsuc}
 use lib.ListN.{get_or}
 use borrow.Author.Tests.{ne_eqb}
-use Rattle.model.specs.declared.Traffic.{Traffic}
+use Rattle.std.specs.Prelude.{None, Some, Ok, Err}
+use Rattle.model.specs.Answers.{Traffic, State, Answer}
 use Rattle.model.specs.declared.Governing.{Governing}
-use Rattle.model.specs.declared.State.{State}
-use Rattle.model.specs.declared.State.TheVariants.{Absent, Reported}
+use Rattle.model.specs.declared.Refusal.{Refusal}
 use Rattle.model.specs.declared.Account.{Account}
-use Rattle.model.specs.declared.Answer.{Answer}
 use Rattle.decimal.specs.Decimal.{ascii, digit, digits, decimal, signed}
 use Rattle.print.specs.Text.{report, traffic_line, governing_text, state_line, account_text, refusal_line, answer_text}
 
@@ -95,8 +94,8 @@ governing_lines g = and_lines (signed_line g.value) (and_lines (word " row ") (d
 
 state_lines : {name : List ℕ} (s : State) → Lines name 0 → Lines (state_line name s) 1
 unfolding newlines
-state_lines Absent name = and_lines name (word " none\n")
-state_lines (Reported g l) name = report_lines name (governing_lines g) (governing_lines l)
+state_lines None name = and_lines name (word " none\n")
+state_lines (Some x) name = report_lines name (governing_lines x.greatest) (governing_lines x.least)
 
 account_lines : (a : Account) → Lines (account_text a) 4
 unfolding newlines
@@ -105,14 +104,14 @@ account_lines a =
     (and_lines (and_lines (traffic_lines a.normal (word "normal")) (traffic_lines a.overload (word "overload"))) (state_lines a.service (word "service")))
     (state_lines a.ultimate (word "ultimate"))
 
-refusal_lines : (number place : ℕ) → Lines (refusal_line number place) 1
+refusal_lines : (r : Refusal) → Lines (refusal_line r) 1
 unfolding newlines
-refusal_lines number place =
-    and_lines (and_lines (and_lines (word "refused ") (digits_line 20 number)) (and_lines (word " at ") (digits_line 20 place))) (word "\n")
+refusal_lines r =
+    and_lines (and_lines (and_lines (word "refused ") (digits_line 20 r.number)) (and_lines (word " at ") (digits_line 20 r.place))) (word "\n")
 
 state_ended : (name : List ℕ) (s : State) → Ended (state_line name s)
-state_ended name Absent = and_ended name (record { body = ascii " none"; is = refl })
-state_ended name (Reported g l) = and_ended name (and_ended ((ascii " greatest " ++ governing_text g) ++ (ascii " least " ++ governing_text l)) (record { body = []; is = refl }))
+state_ended name None = and_ended name (record { body = ascii " none"; is = refl })
+state_ended name (Some x) = and_ended name (and_ended ((ascii " greatest " ++ governing_text x.greatest) ++ (ascii " least " ++ governing_text x.least)) (record { body = []; is = refl }))
 
 account_ended : (a : Account) → Ended (account_text a)
 account_ended a =
@@ -120,17 +119,12 @@ account_ended a =
     (traffic_line (ascii "normal") a.normal ++ traffic_line (ascii "overload") a.overload ++ state_line (ascii "service") a.service)
     (state_ended (ascii "ultimate") a.ultimate)
 
-refusal_ended : (number place : ℕ) → Ended (refusal_line number place)
-refusal_ended number place = record { body = (ascii "refused " ++ decimal number) ++ (ascii " at " ++ decimal place); is = refl }
+refusal_ended : (r : Refusal) → Ended (refusal_line r)
+refusal_ended r = record { body = (ascii "refused " ++ decimal r.number) ++ (ascii " at " ++ decimal r.place); is = refl }
 
 -- no answer's text begins another's: one that was cut short is no answer's
 pub cut_short : (a b : Answer) (rest : List ℕ) → answer_text a ≡ answer_text b ++ rest → rest ≡ []
-cut_short a b rest = by (eqb a.refusal 0) (eqb b.refusal 0)
-  where
-    by : (p q : Bool) →
-        cond p (account_text a.account) (refusal_line a.refusal a.place) ≡ cond q (account_text b.account) (refusal_line b.refusal b.place) ++ rest →
-        rest ≡ []
-    by true true e = same_lines (account_lines a.account) (account_lines b.account) (account_ended a.account) e
-    by false false e = same_lines (refusal_lines a.refusal a.place) (refusal_lines b.refusal b.place) (refusal_ended a.refusal a.place) e
-    by true false e = let n : ◌≡◌ {A = ℕ} 110 114 = ap (λ (s : List ℕ). get_or s 0 0) e in absurd (omega arith)
-    by false true e = let n : ◌≡◌ {A = ℕ} 114 110 = ap (λ (s : List ℕ). get_or s 0 0) e in absurd (omega arith)
+cut_short (Ok a) (Ok b) rest e = same_lines (account_lines a) (account_lines b) (account_ended a) e
+cut_short (Err r) (Err t) rest e = same_lines (refusal_lines r) (refusal_lines t) (refusal_ended r) e
+cut_short (Ok a) (Err t) rest e = let n : ◌≡◌ {A = ℕ} 110 114 = ap (λ (s : List ℕ). get_or s 0 0) e in absurd (omega arith)
+cut_short (Err r) (Ok b) rest e = let n : ◌≡◌ {A = ℕ} 114 110 = ap (λ (s : List ℕ). get_or s 0 0) e in absurd (omega arith)

@@ -5,14 +5,12 @@
 --   ultimate likewise
 --   refused NUMBER at PLACE
 -- Numbers are decimal, with a minus where below 0 and no zeros in front.
-use Rattle.std.specs.Prelude.{ℕ, List, ◌++◌, eqb, if◌then◌else◌}
+use Rattle.std.specs.Prelude.{ℕ, List, ◌++◌, None, Some, Ok, Err}
 use Rattle.decimal.specs.Decimal.{ascii, decimal, signed}
-use Rattle.model.specs.declared.Traffic.{Traffic}
 use Rattle.model.specs.declared.Governing.{Governing}
-use Rattle.model.specs.declared.State.{State}
-use Rattle.model.specs.declared.State.TheVariants.{Absent, Reported}
+use Rattle.model.specs.declared.Refusal.{Refusal}
 use Rattle.model.specs.declared.Account.{Account}
-use Rattle.model.specs.declared.Answer.{Answer}
+use Rattle.model.specs.Answers.{Traffic, State, Answer}
 
 -- a line's greatest and least, after its name
 abbrev pub report : List ℕ → List ℕ → List ℕ
@@ -28,8 +26,8 @@ governing_text g = signed g.value ++ (ascii " row " ++ decimal g.row)
 
 -- a limit state's line
 abbrev pub state_line : List ℕ → State → List ℕ
-state_line name Absent = name ++ ascii " none\n"
-state_line name (Reported greatest least) = name ++ report (governing_text greatest) (governing_text least)
+state_line name None = name ++ ascii " none\n"
+state_line name (Some x) = name ++ report (governing_text x.greatest) (governing_text x.least)
 
 -- the four lines of an accepted job
 abbrev pub account_text : Account → List ℕ
@@ -38,9 +36,10 @@ account_text a =
     ++ state_line (ascii "service") a.service ++ state_line (ascii "ultimate") a.ultimate
 
 -- the line of a refused job
-abbrev pub refusal_line : ℕ → ℕ → List ℕ
-refusal_line number place = (ascii "refused " ++ decimal number) ++ (ascii " at " ++ decimal place) ++ ascii "\n"
+abbrev pub refusal_line : Refusal → List ℕ
+refusal_line r = (ascii "refused " ++ decimal r.number) ++ (ascii " at " ++ decimal r.place) ++ ascii "\n"
 
--- an answer: refusal 0 is acceptance
+-- an answer
 abbrev pub answer_text : Answer → List ℕ
-answer_text a = if eqb a.refusal 0 then account_text a.account else refusal_line a.refusal a.place
+answer_text (Ok a) = account_text a
+answer_text (Err r) = refusal_line r

@@ -3,10 +3,10 @@
 
 ghost use Rattle.std.specs.Prelude.{◌≡◌, ◌++◌, ◌+◌, ◌≤◌, length, take, drop};
 ghost use Rattle.buffer.specs.Stored.{HasRoom, Puts};
-ghost use Rattle.print.specs.Text.{traffic_line, governing_text, state_line, answer_text};
+ghost use Rattle.print.specs.Text.{traffic_line, governing_text, state_line, account_text, refusal_line, answer_text};
 
 use buffer::Cursor;
-use model::{Account, Answer, Governing, State, Traffic};
+use model::{Account, Answer, Governing, Refusal, State, Traffic};
 
 // Room for every answer's text.
 pub const SIZE: usize = 384;
@@ -41,13 +41,36 @@ fn put_state(w: &mut Cursor, name: &[u8], s: State)
 {
     w.put(name);
     match s {
-        State::Absent => w.put(b" none\n"),
-        State::Reported { greatest, least } => {
-            put_governing(w, b" greatest ", greatest);
-            put_governing(w, b" least ", least);
+        None => w.put(b" none\n"),
+        Some(x) => {
+            put_governing(w, b" greatest ", x.greatest);
+            put_governing(w, b" least ", x.least);
             w.put(b"\n");
         }
     }
+}
+
+// The four lines of an accepted job.
+fn put_account(w: &mut Cursor, a: Account)
+    requires { HasRoom 384 w.old }
+    ensures puts { Puts w.old (account_text a) w.new }
+    ensures upper_bound { w.new.at ≤ w.old.at + 384 }
+{
+    put_traffic(w, b"normal", a.normal);
+    put_traffic(w, b"overload", a.overload);
+    put_state(w, b"service", a.service);
+    put_state(w, b"ultimate", a.ultimate);
+}
+
+// The line of a refused job.
+fn put_refusal(w: &mut Cursor, r: Refusal)
+    requires { HasRoom 384 w.old }
+    ensures puts { Puts w.old (refusal_line r) w.new }
+    ensures upper_bound { w.new.at ≤ w.old.at + 384 }
+{
+    decimal::put_number(w, b"refused ", r.number as u64);
+    decimal::put_number(w, b" at ", r.place as u64);
+    w.put(b"\n");
 }
 
 // Puts an answer's text at the start of a buffer, leaves the rest of it as it was, and answers the text's length. The first clause serves a caller that lends `&out[..r]`.
@@ -57,15 +80,14 @@ pub fn text(a: Answer, out: &mut [u8; SIZE]) -> usize
     ensures out_after { out.new ≡ answer_text a ++ drop result out.old }
 {
     let mut w = Cursor { out, at: 0 };
-    if a.refusal != 0 {
-        decimal::put_number(&mut w, b"refused ", a.refusal as u64);
-        decimal::put_number(&mut w, b" at ", a.place as u64);
-        w.put(b"\n");
-        return w.at;
+    match a {
+        Ok(account) => {
+            put_account(&mut w, account);
+            w.at
+        }
+        Err(refusal) => {
+            put_refusal(&mut w, refusal);
+            w.at
+        }
     }
-    put_traffic(&mut w, b"normal", a.account.normal);
-    put_traffic(&mut w, b"overload", a.account.overload);
-    put_state(&mut w, b"service", a.account.service);
-    put_state(&mut w, b"ultimate", a.account.ultimate);
-    w.at
 }

@@ -1,36 +1,25 @@
 // A rating as bytes for a host: nine numbers of eight bytes each, in two's complement, lowest byte first, in the order of `report_numbers`.
 #![tactic(auto)]
 
-ghost use Rattle.std.specs.Prelude.{◌≡◌, ◌++◌, ◌≤◌, ◌<◌, length, drop};
+ghost use Rattle.std.specs.Prelude.{◌≡◌, ◌++◌, ◌≤◌, length, drop};
 ghost use Rattle.buffer.specs.Stored.{HasRoom};
-ghost use Rattle.model.specs.Numbers.{way_number};
 ghost use Rattle.model.specs.Trains.{report_size};
 ghost use Rattle.numbers.specs.NumberBytes.{numbers_bytes, Written, ReadBack};
 ghost use Rattle.reports.specs.ReportNumbers.{stand_numbers, report_numbers};
 
 use buffer::Cursor;
-use model::{Rating, TrainExtreme, Way};
+use model::{Rating, TrainExtreme};
 
 // The bytes of a report.
 pub const SIZE: usize = 72;
-
-// 0 as given, 1 turned.
-fn way_number(w: Way) -> u64
-    ensures { (result ≡ way_number w) × (result < 2) }
-{
-    match w {
-        Way::AsGiven => 0,
-        Way::Turned => 1,
-    }
-}
 
 // A stand.
 fn put_stand(w: &mut Cursor, x: TrainExtreme)
     requires { HasRoom 24 w.old }
     ensures { Written w.old (stand_numbers x) w.new }
 {
-    numbers::put_count(w, way_number(x.way));
-    numbers::put_count(w, placements::side_number(x.side));
+    numbers::put_count(w, u64::from(x.way));
+    numbers::put_count(w, u64::from(x.side));
     numbers::put_signed(w, x.station);
 }
 

@@ -7,4 +7,4 @@ use Rattle.encode.proofs.put_position.Goals as goal
 pub returns : goal.returns
 returns c =
     let f : SFits w64 c.args.p.station = search rules in
-    and_then (signed f c.put_signed.ensures) (natural c.side_number.ensures.0 c.put_count.ensures)
+    and_then (signed f c.put_signed.ensures) (natural c.from.ensures.0 c.put_count.ensures)

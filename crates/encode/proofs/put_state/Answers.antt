@@ -3,7 +3,7 @@ use Rattle.encode.specs.Encoding.{limit_numbers}
 use Rattle.numbers.proofs.Stores.{and_then, retold}
 use Rattle.encode.proofs.put_state.Goals as goal
 
-pub returns-in-Reported : goal.returns-in-Reported
-returns-in-Reported c =
+pub returns-in-Some : goal.returns-in-Some
+returns-in-Some c =
     let greatest = and_then c.put_count.ensures c.put_governing.ensures in
-    retold (sym (ap limit_numbers c.in-Reported.is)) (and_then greatest c.put_governing-in-Reported.ensures)
+    retold (sym (ap limit_numbers c.in-Some.is)) (and_then greatest c.put_governing-in-Some.ensures)
