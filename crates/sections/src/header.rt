@@ -61,8 +61,7 @@ pub fn read(s: &[u8]) -> Header
 pub fn size(head: Header) -> usize
     ensures { (result ≡ length (format head Head).fields) × (result ≤ 13) }
 {
-    let edition = head.edition;
-    match edition {
+    match head.edition {
         Edition::First => model::HEADER_WORDS,
         Edition::Second => model::SECOND_HEADER_WORDS,
         Edition::Third => model::THIRD_HEADER_WORDS,

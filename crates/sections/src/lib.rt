@@ -13,8 +13,7 @@ use model::{Edition, Header, Part};
 fn effect_words(head: Header) -> usize
     ensures { (result ≡ effect_size (effect_unit head.edition)) × (result ≤ 3) }
 {
-    let edition = head.edition;
-    match edition {
+    match head.edition {
         Edition::First | Edition::Fourth => model::EFFECT_WORDS,
         Edition::Second | Edition::Third => model::NEWTON_EFFECT_WORDS,
     }
