@@ -1,7 +1,8 @@
 -- What an answer is made of, where its types are the library's or have a value for each question.
 use Rattle.std.specs.Prelude.{Option, Result}
 use Rattle.exact.specs.declared.ByQuestion.{ByQuestion}
-use Rattle.model.specs.declared.{Extreme.Extreme, Governing.Governing, Account.Account, Refusal.Refusal}
+use Rattle.model.specs.Job.{Limit, service, ultimate}
+use Rattle.model.specs.declared.{ByLimit.ByLimit, Extreme.Extreme, Governing.Governing, Account.Account, Refusal.Refusal}
 
 -- the greatest and the least of a live kind
 abbrev pub Traffic : Type 0
@@ -14,3 +15,8 @@ State = Option (ByQuestion Governing)
 -- the account of an accepted job, or the refusal
 abbrev pub Answer : Type 0
 Answer = Result Account Refusal
+
+-- a limit state's value of the two
+abbrev pub for_limit : {A : Type 0} → Limit → ByLimit A → A
+for_limit service x = x.service
+for_limit ultimate x = x.ultimate

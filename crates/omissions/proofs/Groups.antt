@@ -48,16 +48,15 @@ module _ (f : ℕ → ℕ) where
       let rest = named_by m (suc e) n (omega arith) (omega arith) in
       by_test (eqb (f e) 0) (λ b. NamesTo m (onward e n b)) (λ _. rest) (λ _. (h, omega arith, rest))
 
-  -- the terms past the first i effects, as the code counts
-  abbrev past : ℕ → List Term
-  past i = terms_by f (i + 1) (11 - i)
+  -- the terms from effect e on, as the code counts
+  abbrev onwards : ℕ → List Term
+  onwards e = terms_by f e (12 - e)
 
-  past_step : (i : ℕ) → i < 11 → past i ≡ (if eqb (f (i + 1)) 0 then past (i + 1) else term_of (i + 1) (f (i + 1)) ∷ past (i + 1))
-  past_step i h =
-      let a : 11 - i ≡ suc (11 - (i + 1)) = omega arith in
-      let b : suc (i + 1) ≡ i + 1 + 1 = omega arith in
-      ap (terms_by f (i + 1)) a
-      ∙ ap (λ (k : ℕ). if eqb (f (i + 1)) 0 then terms_by f k (11 - (i + 1)) else term_of (i + 1) (f (i + 1)) ∷ terms_by f k (11 - (i + 1))) b
+  onwards_step : (e : ℕ) → e < 12 → onwards e ≡ (if eqb (f e) 0 then onwards (e + 1) else term_of e (f e) ∷ onwards (e + 1))
+  onwards_step e h =
+      let a : 12 - e ≡ suc (12 - (e + 1)) = omega arith in
+      let b : suc e ≡ e + 1 = omega arith in
+      ap (terms_by f e) a ∙ ap (λ (k : ℕ). if eqb (f e) 0 then terms_by f k (12 - (e + 1)) else term_of e (f e) ∷ terms_by f k (12 - (e + 1))) b
 
 -- ---- the walk
 module _ (q : Question) (effect : ℕ → Effect) where
@@ -78,34 +77,34 @@ module _ (q : Question) (effect : ℕ → Effect) where
       kept true = ap (λ (z : ℤ). record { value = z; omitted = x.omitted }) (solve 1 (λ z. z ⊕ lit 0 ≐ z) tt x.value)
       kept false = ap (λ (z : ℤ). record { value = z; omitted = x.omitted }) (solve 1 (λ z. z ⊕ lit 0 ≐ z) tt x.value)
 
-  -- what is in hand past the first i effects
-  pub record GroupSofar (f : ℕ → ℕ) (i : ℕ) (x : Chained) : Type 0 where
+  -- what is in hand before effect e
+  pub record GroupSofar (f : ℕ → ℕ) (e : ℕ) (x : Chained) : Type 0 where
     pub terms : ℕ
-    pub sofar : Sofar q effect (terms_by f 1 11) (past f i) terms x
+    pub sofar : Sofar q effect (terms_by f 1 11) (onwards f e) terms x
 
-  pub group_none : (f : ℕ → ℕ) → GroupSofar f 0 (record { value = pos 0; omitted = 0 })
+  pub group_none : (f : ℕ → ℕ) → GroupSofar f 1 (record { value = pos 0; omitted = 0 })
   group_none f = record { terms = 0; sofar = sofar_none q effect (terms_by f 1 11) }
 
-  pub group_more : (f : ℕ → ℕ) (i : ℕ) (own : Share) (x : Chained) → i < 11 → ShareRight effect (term_of (i + 1) (f (i + 1))) own → GroupSofar f i x → GroupSofar f (i + 1) (extended_by q own x)
-  group_more f i own x h r g =
-      by_test (eqb (f (i + 1)) 0) (λ b. past f i ≡ (if b then past f (i + 1) else term_of (i + 1) (f (i + 1)) ∷ past f (i + 1)) → GroupSofar f (i + 1) (extended_by q own x))
-      (λ b e. record {
+  pub group_more : (f : ℕ → ℕ) (e : ℕ) (own : Share) (x : Chained) → e < 12 → ShareRight effect (term_of e (f e)) own → GroupSofar f e x → GroupSofar f (e + 1) (extended_by q own x)
+  group_more f e own x h r g =
+      by_test (eqb (f e) 0) (λ b. onwards f e ≡ (if b then onwards f (e + 1) else term_of e (f e) ∷ onwards f (e + 1)) → GroupSofar f (e + 1) (extended_by q own x))
+      (λ b is. record {
         terms = g.terms;
         sofar =
-            subst (Sofar q effect (terms_by f 1 11) (past f (i + 1)) g.terms) (sym (nothing_more (i + 1) own x (subst (λ (k : ℕ). ShareRight effect (term_of (i + 1) k) own) (eqb-true (f (i + 1)) 0 b) r)))
-            (subst (λ (l : List Term). Sofar q effect (terms_by f 1 11) l g.terms x) e g.sofar);
+            subst (Sofar q effect (terms_by f 1 11) (onwards f (e + 1)) g.terms) (sym (nothing_more e own x (subst (λ (k : ℕ). ShareRight effect (term_of e k) own) (eqb-true (f e) 0 b) r)))
+            (subst (λ (l : List Term). Sofar q effect (terms_by f 1 11) l g.terms x) is g.sofar);
       })
-      (λ b e. record {
+      (λ b is. record {
         terms = g.terms + 1;
-        sofar = sofar_more q effect (terms_by f 1 11) (past f (i + 1)) (term_of (i + 1) (f (i + 1))) g.terms own x r (subst (λ (l : List Term). Sofar q effect (terms_by f 1 11) l g.terms x) e g.sofar);
+        sofar = sofar_more q effect (terms_by f 1 11) (onwards f (e + 1)) (term_of e (f e)) g.terms own x r (subst (λ (l : List Term). Sofar q effect (terms_by f 1 11) l g.terms x) is g.sofar);
       })
-      (past_step f i h)
+      (onwards_step f e h)
 
-  module _ {f : ℕ → ℕ} {i : ℕ} {x : Chained} (g : GroupSofar f i x) where
+  module _ {f : ℕ → ℕ} {e : ℕ} {x : Chained} (g : GroupSofar f e x) where
     -- there is room for a share more
     pub group_near : Within chain_most x.value
     group_near = sofar_near q effect g.sofar (distinct_by f 1 11) (named_by f 16 1 11 (omega arith) (omega arith))
 
     -- all eleven have been walked
-    pub group_all : i ≡ 11 → ChainRight q effect (terms_by f 1 11) x
-    group_all e = sofar_all q effect g.sofar (distinct_by f 1 11) (named_by f 16 1 11 (omega arith) (omega arith)) (ap (past f) e)
+    pub group_all : e ≡ 12 → ChainRight q effect (terms_by f 1 11) x
+    group_all p = sofar_all q effect g.sofar (distinct_by f 1 11) (named_by f 16 1 11 (omega arith) (omega arith)) (ap (onwards f) p)

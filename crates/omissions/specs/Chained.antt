@@ -4,7 +4,6 @@ use Rattle.std.specs.Int.Bits.{bit_or}
 use Rattle.exact.specs.Bounds.{Within}
 use Rattle.exact.specs.Questions.{beats}
 use Rattle.exact.specs.declared.Question.{Question}
-use Rattle.exact.specs.declared.Question.TheVariants.{Greatest, Least}
 use Rattle.magnitudes.specs.Magnitudes.{share_most, chain_most}
 use Rattle.model.specs.Chains.{record_effect, record_factor}
 use Rattle.model.specs.Job.{Effect, Term}
@@ -13,7 +12,6 @@ use Rattle.model.specs.Answered.{omits}
 use Rattle.omissions.specs.declared.Stated.{Stated}
 use Rattle.omissions.specs.declared.Share.{Share}
 use Rattle.omissions.specs.declared.Chained.{Chained}
-use Rattle.omissions.specs.declared.ChainedBoth.{ChainedBoth}
 
 -- an effect is stated right: its unit times its number is its value in N·U
 pub record StatedRight (effect : Effect) (x : Stated) : Type 0 where
@@ -48,11 +46,6 @@ extended_by q x sofar =
     if leaves_share q x
     then record { value = sofar.value; omitted = bit_or sofar.omitted x.bit }
     else record { value = sofar.value +ℤ x.value; omitted = sofar.omitted }
-
--- a question's best
-abbrev pub chain_for : Question → ChainedBoth → Chained
-chain_for Greatest x = x.greatest
-chain_for Least x = x.least
 
 -- a chain's best value is right: it equals the model's, and its omissions are allowed and give it exactly
 pub record ChainRight (q : Question) (effect : ℕ → Effect) (terms : List Term) (x : Chained) : Type 0 where

@@ -3,6 +3,7 @@
 
 ghost use Rattle.std.specs.Prelude.{◌≡◌, ◌+◌, ◌-◌, ◌*◌, ◌^◌, ◌≤◌, ◌<◌, eqb, length};
 ghost use Rattle.exact.specs.Bounds.{Within};
+ghost use Rattle.exact.specs.Questions.{for_question};
 ghost use Rattle.exact.specs.declared.Question.{Question};
 ghost use Rattle.words.specs.Words.{count_at};
 ghost use Rattle.model.specs.Format.{bytes, kilonewtons, newtons, effect_unit, effect_bytes};
@@ -12,9 +13,9 @@ ghost use Rattle.model.specs.Decode.{effect_at, terms_from};
 ghost use Rattle.model.specs.RuralBridges.{group_row};
 ghost use Rattle.groups.specs.FactorLines.{line_row, line_alternative};
 ghost use Rattle.omissions.specs.ChainTables.{Distinct, EffectsInReach, RecordsInTables};
-ghost use Rattle.omissions.specs.Chained.{StatedRight, term_of, ShareRight, leaves_share, extended_by, chain_for, ChainRight};
+ghost use Rattle.omissions.specs.Chained.{StatedRight, term_of, ShareRight, leaves_share, extended_by, ChainRight};
 
-use exact::Question;
+use exact::{ByQuestion, Question};
 use model::Edition;
 
 // An effect as its job states it: so many units, a unit in N·U, and whether it may be left out.
@@ -86,6 +87,15 @@ pub struct Share {
     pub bit: u32,
 }
 
+impl Share {
+    // It is left out: that is allowed and better.
+    fn is_left_out(self, q: Question) -> bool
+        ensures { result ≡ leaves_share q self }
+    {
+        self.optional && exact::beats(q, 0, self.value)
+    }
+}
+
 // Effect e's share by its factor in thousandths.
 fn share_of(effects: &[u8], edition: Edition, e: usize, factor: usize) -> Share
     requires { EffectsInReach (effect_unit edition) effects.now × (1 ≤ e) × (e ≤ 16) × (effect_bytes (effect_unit edition) * e ≤ length effects.now) × (factor ≤ 3000) }
@@ -99,16 +109,6 @@ fn share_of(effects: &[u8], edition: Edition, e: usize, factor: usize) -> Share
     }
 }
 
-// The share is left out: that is allowed and better.
-fn leaves(q: Question, share: Share) -> bool
-    ensures { result ≡ leaves_share q share }
-{
-    if share.optional {
-        return exact::beats(q, 0, share.value);
-    }
-    false
-}
-
 // A chain's best value for a question, and the effects left out, a bit an effect.
 #[derive(Clone, Copy)]
 pub struct Chained {
@@ -116,90 +116,94 @@ pub struct Chained {
     pub omitted: u32,
 }
 
-// A chain's best with one share more, which is left out or counts.
-fn extended(q: Question, share: Share, sofar: Chained) -> Chained
-    requires { Within share_most share.value × Within chain_most sofar.value }
-    ensures { result ≡ extended_by q share sofar }
+impl Chained {
+    // With one share more, which is left out or counts.
+    fn extended(self, q: Question, share: Share) -> Chained
+        requires { Within share_most share.value × Within chain_most self.value }
+        ensures { result ≡ extended_by q share self }
+    {
+        if share.is_left_out(q) {
+            return Chained {
+                value: self.value,
+                omitted: self.omitted | share.bit,
+            };
+        }
+        Chained {
+            value: self.value + share.value,
+            omitted: self.omitted,
+        }
+    }
+}
+
+// A chain's best for each question with one share more.
+fn extended_both(share: Share, sofar: ByQuestion<Chained>) -> ByQuestion<Chained>
+    requires { Within share_most share.value × ((q : Question) → Within chain_most (for_question q sofar).value) }
+    ensures { (q : Question) → for_question q result ≡ extended_by q share (for_question q sofar) }
 {
-    if leaves(q, share) {
-        return Chained {
-            value: sofar.value,
-            omitted: sofar.omitted | share.bit,
-        };
-    }
-    Chained {
-        value: sofar.value + share.value,
-        omitted: sofar.omitted,
+    ByQuestion {
+        greatest: sofar.greatest.extended(Question::Greatest, share),
+        least: sofar.least.extended(Question::Least, share),
     }
 }
 
-// A chain's best for each question.
-#[derive(Clone, Copy)]
-pub struct ChainedBoth {
-    pub greatest: Chained,
-    pub least: Chained,
-}
+// The best of a chain of no share.
+const NOTHING: ByQuestion<Chained> = ByQuestion {
+    greatest: Chained {
+        value: 0,
+        omitted: 0,
+    },
+    least: Chained {
+        value: 0,
+        omitted: 0,
+    },
+};
 
-// A chain of records: its best for each question, and its length.
+// The best for each question of what has a chain of records, and the chain's length.
 #[derive(Clone, Copy)]
-pub struct Walked {
-    pub best: ChainedBoth,
+pub struct Walked<T> {
+    pub best: ByQuestion<T>,
     pub length: usize,
 }
 
 // The best of the chain from a first record, of at most so many records, and its length.
-pub fn best(effects: &[u8], edition: Edition, records: &[u8], first: usize, count: usize) -> Walked
+pub fn best(
+    effects: &[u8],
+    edition: Edition,
+    records: &[u8],
+    first: usize,
+    count: usize,
+) -> Walked<Chained>
     requires { EffectsInReach (effect_unit edition) effects.now × RecordsInTables (effect_unit edition) effects.now records.now × (bytes Records * first ≤ length records.now) × Distinct (terms_from records.now count first) }
-    ensures chain_right { (q : Question) → ChainRight q (effect_at (effect_unit edition) effects.now) (terms_from records.now count first) (chain_for q result.best) }
+    ensures chain_right { (q : Question) → ChainRight q (effect_at (effect_unit edition) effects.now) (terms_from records.now count first) (for_question q result.best) }
     ensures length_value { result.length ≡ length (terms_from records.now count first) }
 {
-    let mut greatest = Chained {
-        value: 0,
-        omitted: 0,
-    };
-    let mut least = Chained {
-        value: 0,
-        omitted: 0,
-    };
+    let mut best = NOTHING;
     let mut c = first;
     for i in 0..count {
         if c == 0 {
-            return Walked {
-                best: ChainedBoth { greatest, least },
-                length: i,
-            };
+            return Walked { best, length: i };
         }
         let e = chains::effect(records, c);
         let own = share_of(effects, edition, e, chains::factor(records, c));
-        greatest = extended(Question::Greatest, own, greatest);
-        least = extended(Question::Least, own, least);
+        best = extended_both(own, best);
         c = chains::next(records, c);
     }
     Walked {
-        best: ChainedBoth { greatest, least },
+        best,
         length: count,
     }
 }
 
 // The best of the chain of a line of the table of rural bridges' factors; a share of factor 0 changes nothing.
-pub fn of_group(effects: &[u8], line: usize) -> ChainedBoth
+pub fn of_group(effects: &[u8], line: usize) -> ByQuestion<Chained>
     requires { EffectsInReach kilonewtons effects.now × (effect_bytes kilonewtons * 11 ≤ length effects.now) × (line < 21) }
-    ensures { (q : Question) → ChainRight q (effect_at kilonewtons effects.now) ((group_row (line_row line)).chain (line_alternative line)) (chain_for q result) }
+    ensures { (q : Question) → ChainRight q (effect_at kilonewtons effects.now) ((group_row (line_row line)).chain (line_alternative line)) (for_question q result) }
 {
-    let mut greatest = Chained {
-        value: 0,
-        omitted: 0,
-    };
-    let mut least = Chained {
-        value: 0,
-        omitted: 0,
-    };
+    let mut best = NOTHING;
     let factors = groups::factors(line);
-    for i in 0usize..11 {
-        let e = i + 1;
+    for e in 1usize..12 {
         let own = share_of(effects, Edition::Fourth, e, factors[e] as usize);
-        greatest = extended(Question::Greatest, own, greatest);
-        least = extended(Question::Least, own, least);
+        best = extended_both(own, best);
     }
-    ChainedBoth { greatest, least }
+    best
 }

@@ -5,14 +5,14 @@ use mathlib.Core.Bool.{Bool}
 use Prim.Native.Nat.{ℕ, suc, ◌-◌, ◌≤◌}
 use native.Mathlib.Omega.{arith}
 use lib.Dec.{eqb, ltb}
-use lib.IntN.{pos, ◌*ℤ◌}
+use lib.IntN.{ℤ, pos, ◌*ℤ◌}
 use borrow.Author.Tests.{eqb-true, ne_eqb, lt-ltb}
 use Rattle.exact.proofs.Bridge.{by_test}
 use Rattle.exact.proofs.Ring.{◌⊗◌, lit, ◌≐◌, solve}
 use Rattle.model.specs.Job.{no_traffic, normal}
 use Rattle.model.specs.RuralBridges.{thousandths, group, group_row, group_rows, row_with_k}
 use Rattle.groups.specs.FactorLines.{line_row, line_alternative, line_factor}
-use Rattle.rows.specs.declared.state.LiveValues.{LiveValues}
+use Rattle.model.specs.declared.ByLive.{ByLive}
 use Rattle.rows.specs.Governed.{live_value}
 
 -- ---- a line's traffic
@@ -22,13 +22,13 @@ unfolding line_factor
 live_factor line = by_test (ltb line group_rows) (λ b. thousandths (group (if b then suc line else row_with_k) 0) 0 ≡ thousandths (group (if b then suc line else row_with_k) (if b then 0 else 1)) 0) (λ _. refl) (λ _. refl)
 
 -- without traffic the factor is 0
-by_normal : (v : LiveValues) (f : ℕ) → pos f *ℤ live_value v (if eqb f 0 then no_traffic else normal) ≡ pos f *ℤ v.normal
+by_normal : (v : ByLive ℤ) (f : ℕ) → pos f *ℤ live_value v (if eqb f 0 then no_traffic else normal) ≡ pos f *ℤ v.normal
 by_normal v f =
     by_test (eqb f 0) (λ b. pos f *ℤ live_value v (if b then no_traffic else normal) ≡ pos f *ℤ v.normal)
     (λ b. rw (eqb-true f 0 b) (solve 1 (λ z. lit 0 ⊗ lit 0 ≐ lit 0 ⊗ z) tt v.normal))
     (λ _. refl)
 
-pub line_load : (v : LiveValues) (line : ℕ) → pos (line_factor line 0) *ℤ v.normal ≡ pos (group_row (line_row line)).factor *ℤ live_value v (group_row (line_row line)).live
+pub line_load : (v : ByLive ℤ) (line : ℕ) → pos (line_factor line 0) *ℤ v.normal ≡ pos (group_row (line_row line)).factor *ℤ live_value v (group_row (line_row line)).live
 line_load v line = ap (λ (f : ℕ). pos f *ℤ v.normal) (sym (live_factor line)) ∙ sym (by_normal v (group_row (line_row line)).factor)
 
 -- ---- a row's line

@@ -1,146 +1,92 @@
 -- The governing rows, one row more.
 use Rattle.std.specs.Prelude.{if◌then◌else◌}
 use mathlib.Core.Path.{◌≡◌, refl, sym, ◌∙◌, ap, subst}
-use mathlib.Core.Bool.{Bool, true, false, true≢false}
+use mathlib.Core.Bool.{Bool, true, false}
 use Rattle.std.specs.Prelude.{Option, None, Some}
-use Prim.Native.Nat.{ℕ, zero, suc, ◌+◌}
+use Prim.Native.Nat.{ℕ, suc, ◌+◌}
 use native.Mathlib.Numerals.{add-one}
-use native.Mathlib.Omega.{arith}
-use lib.Dec.{eqb}
 use lib.IntN.{ℤ}
-use borrow.Author.Tests.{ne_eqb}
-use Rattle.exact.specs.Questions.{beats}
+use Rattle.exact.specs.Questions.{beats, for_question}
+use Rattle.exact.specs.declared.ByQuestion.{ByQuestion}
 use Rattle.exact.specs.declared.Question.{Question}
 use Rattle.exact.specs.declared.Question.TheVariants.{Greatest, Least}
 use Rattle.exact.proofs.Bridge.{by_test}
 use Rattle.exact.proofs.Extremes.{by_question}
+use Rattle.model.specs.Answers.{State, for_limit}
 use Rattle.model.specs.Job.{Effect, Limit, service, ultimate, Live, Row}
 use Rattle.model.specs.Rows.{best_row, Governs, later_if_better, is_of, governing}
-use Rattle.model.specs.declared.Governing.{Governing}
-use Rattle.model.specs.declared.State.TheVariants.{Absent, Reported}
-use Rattle.rows.specs.declared.state.RowBoth.{RowBoth}
-use Rattle.rows.specs.declared.state.RowWalked.{RowWalked}
-use Rattle.rows.specs.declared.state.Found.{Found}
-use Rattle.rows.specs.Governed.{RowRight, row_for, governs, governed, found, later_row, with_row, RowFound, FoundRight, state_by, StateFound}
+use Rattle.model.specs.declared.{ByLimit.ByLimit, Governing.Governing}
+use Rattle.rows.specs.Governed.{RowRight, governs, governed, better_row, later_rows, with_row, StateRow, StateFound}
 
-module _ (q : Question) (effect : ℕ → Effect) (row : ℕ → Row) (traffic : Live → ℤ) (limit : Limit) where
-  -- the later row, as the model has it
-  later_is : (sofar next : Governing) → eqb next.row 0 ≡ false → found (later_row q sofar next) ≡ later_if_better q (found sofar) (governed next)
-  later_is sofar next there =
-      by_test (eqb sofar.row 0) (λ t. found (if t then next else (if beats q next.value sofar.value then next else sofar)) ≡ later_if_better q (if t then None else Some (governed sofar)) (governed next))
-      (λ _. is_next)
-      (λ e. by_test (beats q next.value sofar.value) (λ t. found (if t then next else sofar) ≡ (if t then Some (governed next) else Some (governed sofar)))
-      (λ _. is_next) (λ _. ap (λ (t : Bool). if t then None else Some (governed sofar)) e))
-    where
-      is_next : found next ≡ Some (governed next)
-      is_next = ap (λ (t : Bool). if t then None else Some (governed next)) there
+-- ---- a question's
+module _ (q : Question) (effect : ℕ → Effect) (row : ℕ → Row) (traffic : Live → ℤ) (limit : Limit) (n : ℕ) where
+  -- row n + 1 at its best
+  abbrev now : Governs
+  now = record { value = best_row q effect traffic (row (suc n)); row = suc n }
 
-  later_right : (sofar next : Governing) → RowRight q effect row traffic next → (eqb sofar.row 0 ≡ false → RowRight q effect row traffic sofar) → RowRight q effect row traffic (later_row q sofar next)
-  later_right sofar next right old =
-      by_test (eqb sofar.row 0) (λ t. RowRight q effect row traffic (if t then next else (if beats q next.value sofar.value then next else sofar)))
-      (λ _. right)
-      (λ e. by_test (beats q next.value sofar.value) (λ t. RowRight q effect row traffic (if t then next else sofar)) (λ _. right) (λ _. old e))
-
-  -- no row yet
-  pub leads_none : (x : Governing) → x.row ≡ 0 → RowFound q effect row traffic limit 0 x
+  -- it is of the state
+  governs_row : is_of limit (row (suc n)).limit ≡ true → governs q effect row traffic limit (suc n) ≡ later_if_better q (governs q effect row traffic limit n) now
   unfolding governing
-  leads_none x e = record { is = rw e refl; right = λ t. absurd (true≢false (sym (ap (λ (k : ℕ). eqb k 0) e) ∙ t)) }
-
-  -- row n + 1 is of the state, and its value is right
-  leads_row : (n : ℕ) (sofar next : Governing) → is_of limit (row (suc n)).limit ≡ true → RowFound q effect row traffic limit n sofar → next.row ≡ suc n → RowRight q effect row traffic next → RowFound q effect row traffic limit (suc n) (later_row q sofar next)
-  unfolding governing
-  leads_row n sofar next t l e right = record {
-    is =
-        ap (λ (b : Bool). if b then later_if_better q (governs q effect row traffic limit n) now else governs q effect row traffic limit n) t
-        ∙ ap (λ (o : Option Governs). later_if_better q o now) l.is
-        ∙ ap (later_if_better q (found sofar)) is_next
-        ∙ sym (later_is sofar next (ne_eqb next.row 0 (λ z. omega arith)));
-    right = λ _. later_right sofar next right l.right;
-  }
-    where
-      now : Governs
-      now = record { value = best_row q effect traffic (row (suc n)); row = suc n }
-
-      is_next : now ≡ governed next
-      is_next = ap (λ (k : ℕ). record { value = best_row q effect traffic (row k); row = k }) (sym e) ∙ ap (λ (z : ℤ). record { value = z; row = next.row }) (sym right.value)
+  governs_row t = ap (λ (b : Bool). if b then later_if_better q (governs q effect row traffic limit n) now else governs q effect row traffic limit n) t
 
   -- it is not
-  leads_other : (n : ℕ) (sofar : Governing) → is_of limit (row (suc n)).limit ≡ false → RowFound q effect row traffic limit n sofar → RowFound q effect row traffic limit (suc n) sofar
+  governs_other : is_of limit (row (suc n)).limit ≡ false → governs q effect row traffic limit (suc n) ≡ governs q effect row traffic limit n
   unfolding governing
-  leads_other n sofar t l = record {
-    is = ap (λ (b : Bool). if b then later_if_better q (governs q effect row traffic limit n) (record { value = best_row q effect traffic (row (suc n)); row = suc n }) else governs q effect row traffic limit n) t ∙ l.is;
-    right = l.right;
-  }
+  governs_other t = ap (λ (b : Bool). if b then later_if_better q (governs q effect row traffic limit n) now else governs q effect row traffic limit n) t
+
+  module _ (next : Governing) (t : is_of limit (row (suc n)).limit ≡ true) (e : next.row ≡ suc n) (right : RowRight q effect row traffic next) where
+    is_next : now ≡ governed next
+    is_next = ap (λ (k : ℕ). record { value = best_row q effect traffic (row k); row = k }) (sym e) ∙ ap (λ (z : ℤ). record { value = z; row = next.row }) (sym right.value)
+
+    -- the state's first row
+    first_row : governs q effect row traffic limit n ≡ None → StateRow q effect row traffic limit (suc n) next
+    first_row before = record { value = governs_row t ∙ ap (λ (o : Option Governs). later_if_better q o now) before ∙ ap Some is_next; right = right }
+
+    -- a later one
+    row_more : (sofar : Governing) → StateRow q effect row traffic limit n sofar → StateRow q effect row traffic limit (suc n) (better_row q sofar next)
+    row_more sofar s = record {
+      value =
+          governs_row t ∙ ap (λ (o : Option Governs). later_if_better q o now) s.value ∙ ap (later_if_better q (Some (governed sofar))) is_next
+          ∙ by_test (beats q next.value sofar.value) (λ b. (if b then Some (governed next) else Some (governed sofar)) ≡ Some (governed (if b then next else sofar))) (λ _. refl) (λ _. refl);
+      right = by_test (beats q next.value sofar.value) (λ b. RowRight q effect row traffic (if b then next else sofar)) (λ _. right) (λ _. s.right);
+    }
 
 -- what holds of both limit states holds of each
 pub by_limit : (P : Limit → Type 0) → P service → P ultimate → (limit : Limit) → P limit
 by_limit P s u service = s
 by_limit P s u ultimate = u
 
--- ---- each state for each question
+-- ---- both questions'
 module _ (effect : ℕ → Effect) (row : ℕ → Row) (traffic : Question → Live → ℤ) where
-  pub found_none : (x : Governing) (walked : ℕ) → x.row ≡ 0 → let none : RowBoth = record { greatest = x; least = x } in FoundRight effect row traffic 0 (record { service = none; ultimate = none; walked = walked })
-  found_none x walked e service = by_question _ (leads_none Greatest effect row (traffic Greatest) service x e) (leads_none Least effect row (traffic Least) service x e)
-  found_none x walked e ultimate = by_question _ (leads_none Greatest effect row (traffic Greatest) ultimate x e) (leads_none Least effect row (traffic Least) ultimate x e)
+  -- no row yet
+  pub found_none : (limit : Limit) → StateFound effect row traffic limit 0 None
+  unfolding governing
+  found_none limit q = refl
 
-  found_more : (n : ℕ) (b : Bool) (x : Found) (next : RowWalked) → (row (suc n)).limit ≡ (if b then service else ultimate) → ((q : Question) → ((row_for q next.best).row ≡ suc n) × RowRight q effect row (traffic q) (row_for q next.best)) →
-      FoundRight effect row traffic n x → FoundRight effect row traffic (suc n) (with_row b x next)
-  found_more n b x next of right f = go b of
-    where
-      is : (limit : Limit) {l : Limit} → (row (suc n)).limit ≡ l → is_of limit (row (suc n)).limit ≡ is_of limit l
-      is limit e = ap (is_of limit) e
+  -- it is row r at its best, for each question
+  abbrev pub Its : ℕ → ByQuestion Governing → Type 0
+  Its r next = (q : Question) → ((for_question q next).row ≡ r) × RowRight q effect row (traffic q) (for_question q next)
 
-      go : (b : Bool) → (row (suc n)).limit ≡ (if b then service else ultimate) → FoundRight effect row traffic (suc n) (with_row b x next)
-      go true of service Greatest = leads_row Greatest effect row (traffic Greatest) service n _ _ (is service of) (f service Greatest) (right Greatest).0 (right Greatest).1
-      go true of service Least = leads_row Least effect row (traffic Least) service n _ _ (is service of) (f service Least) (right Least).0 (right Least).1
-      go true of ultimate q = leads_other q effect row (traffic q) ultimate n _ (is ultimate of) (f ultimate q)
-      go false of service q = leads_other q effect row (traffic q) service n _ (is service of) (f service q)
-      go false of ultimate Greatest = leads_row Greatest effect row (traffic Greatest) ultimate n _ _ (is ultimate of) (f ultimate Greatest) (right Greatest).0 (right Greatest).1
-      go false of ultimate Least = leads_row Least effect row (traffic Least) ultimate n _ _ (is ultimate of) (f ultimate Least) (right Least).0 (right Least).1
+  module _ (n : ℕ) (limit : Limit) where
+    found_row : (s : State) (next : ByQuestion Governing) → is_of limit (row (suc n)).limit ≡ true → Its (suc n) next → StateFound effect row traffic limit n s → StateFound effect row traffic limit (suc n) (later_rows s next)
+    found_row None next t its f = λ q. first_row q effect row (traffic q) limit n (for_question q next) t (its q).0 (its q).1 (f q)
+    found_row (Some x) next t its f =
+        by_question _
+        (row_more Greatest effect row (traffic Greatest) limit n next.greatest t (its Greatest).0 (its Greatest).1 x.greatest (f Greatest))
+        (row_more Least effect row (traffic Least) limit n next.least t (its Least).0 (its Least).1 x.least (f Least))
+
+    found_other : (s : State) → is_of limit (row (suc n)).limit ≡ false → StateFound effect row traffic limit n s → StateFound effect row traffic limit (suc n) s
+    found_other None t f = λ q. governs_other q effect row (traffic q) limit n t ∙ f q
+    found_other (Some x) t f = λ q. record { value = governs_other q effect row (traffic q) limit n t ∙ (f q).value; right = (f q).right }
+
+  -- each state
+  abbrev pub Found : ℕ → ByLimit State → Type 0
+  Found n x = (limit : Limit) → StateFound effect row traffic limit n (for_limit limit x)
+
+  found_more : (n : ℕ) (b : Bool) (x : ByLimit State) (next : ByQuestion Governing) → (row (suc n)).limit ≡ (if b then service else ultimate) → Its (suc n) next → Found n x → Found (suc n) (with_row b x next)
+  found_more n true x next of its f = by_limit _ (found_row n service x.service next (ap (is_of service) of) its (f service)) (found_other n ultimate x.ultimate (ap (is_of ultimate) of) (f ultimate))
+  found_more n false x next of its f = by_limit _ (found_other n service x.service (ap (is_of service) of) (f service)) (found_row n ultimate x.ultimate next (ap (is_of ultimate) of) its (f ultimate))
 
   -- as the code counts
-  pub found_next : (n : ℕ) (b : Bool) (x : Found) (next : RowWalked) → (row (n + 1)).limit ≡ (if b then service else ultimate) → ((q : Question) → ((row_for q next.best).row ≡ n + 1) × RowRight q effect row (traffic q) (row_for q next.best)) →
-      FoundRight effect row traffic n x → FoundRight effect row traffic (n + 1) (with_row b x next)
-  found_next n b x next = subst (λ (k : ℕ). (row k).limit ≡ (if b then service else ultimate) → ((q : Question) → ((row_for q next.best).row ≡ k) × RowRight q effect row (traffic q) (row_for q next.best)) → FoundRight effect row traffic n x → FoundRight effect row traffic k (with_row b x next)) (sym (add-one n)) (found_more n b x next)
-
--- ---- a state's two questions have a row or none together
-abbrev has : Option Governs → Bool
-has None = false
-has (Some g) = true
-
-later_has : (q : Question) (o : Option Governs) (g : Governs) → has (later_if_better q o g) ≡ true
-later_has q None g = refl
-later_has q (Some s) g = by_test (beats q g.value s.value) (λ t. has (if t then Some g else Some s) ≡ true) (λ _. refl) (λ _. refl)
-
-same_rows : (q p : Question) (row : ℕ → Row) (v w : ℕ → ℤ) (limit : Limit) (n : ℕ) → has (governing q row v limit n) ≡ has (governing p row w limit n)
-unfolding governing
-same_rows q p row v w limit zero = refl
-same_rows q p row v w limit (suc n) =
-    by_test (is_of limit (row (suc n)).limit)
-    (λ t. has (if t then later_if_better q (governing q row v limit n) (record { value = v (suc n); row = suc n }) else governing q row v limit n) ≡ has (if t then later_if_better p (governing p row w limit n) (record { value = w (suc n); row = suc n }) else governing p row w limit n))
-    (λ _. later_has q (governing q row v limit n) _ ∙ sym (later_has p (governing p row w limit n) _))
-    (λ _. same_rows q p row v w limit n)
-
--- what was found, said of the state
-module _ (effect : ℕ → Effect) (row : ℕ → Row) (traffic : Question → Live → ℤ) (limit : Limit) (n : ℕ) (x : RowBoth) (f : (q : Question) → RowFound q effect row (traffic q) limit n (row_for q x)) where
-  has_found : (g : Governing) → has (found g) ≡ (if eqb g.row 0 then false else true)
-  has_found g = by_test (eqb g.row 0) (λ t. has (if t then None else Some (governed g)) ≡ (if t then false else true)) (λ _. refl) (λ _. refl)
-
-  -- a question has a row where the other has one
-  alike : (q : Question) {t : Bool} → eqb x.greatest.row 0 ≡ t → eqb (row_for q x).row 0 ≡ t
-  alike q {t} e = go (eqb (row_for q x).row 0) t (sym (has_found (row_for q x)) ∙ ap has (sym (f q).is) ∙ same_rows q Greatest row _ _ limit n ∙ ap has (f Greatest).is ∙ has_found x.greatest ∙ ap (λ (b : Bool). if b then false else true) e)
-    where
-      go : (b t : Bool) → (if b then false else true) ≡ (if t then false else true) → b ≡ t
-      go true true p = refl
-      go true false p = absurd (true≢false (sym p))
-      go false true p = absurd (true≢false p)
-      go false false p = refl
-
-  at : (q : Question) {t : Bool} → eqb x.greatest.row 0 ≡ t → governs q effect row (traffic q) limit n ≡ (if t then None else Some (governed (row_for q x)))
-  at q e = (f q).is ∙ ap (λ (t : Bool). if t then None else Some (governed (row_for q x))) (alike q e)
-
-  pub state_found : StateFound effect row traffic limit n (state_by x)
-  state_found =
-      by_test (eqb x.greatest.row 0) (λ t. StateFound effect row traffic limit n (if t then Absent else Reported x.greatest x.least))
-      (λ e q. at q e)
-      (λ e. (record { value = at Greatest e; right = (f Greatest).right e }, record { value = at Least e; right = (f Least).right (alike Least e) }))
+  pub found_next : (n : ℕ) (b : Bool) (x : ByLimit State) (next : ByQuestion Governing) → (row (n + 1)).limit ≡ (if b then service else ultimate) → Its (n + 1) next → Found n x → Found (n + 1) (with_row b x next)
+  found_next n b x next = subst (λ (k : ℕ). (row k).limit ≡ (if b then service else ultimate) → Its k next → Found n x → Found k (with_row b x next)) (sym (add-one n)) (found_more n b x next)

@@ -1,21 +1,20 @@
 -- From what is found of a limit state to the model's: the traffic values are the job's, and the reported placements give them.
 use Rattle.std.specs.Prelude.{if◌then◌else◌}
 use mathlib.Core.Path.{◌≡◌, refl, sym, ◌∙◌, ap, ap₂}
-use Rattle.std.specs.Prelude.{Option}
+use Rattle.std.specs.Prelude.{Option, None, Some}
 use mathlib.Core.List.{List}
 use Prim.Native.Nat.{ℕ, zero, suc}
 use lib.IntN.{ℤ, pos, ◌+ℤ◌, ◌*ℤ◌}
-use Rattle.exact.specs.Questions.{better, extreme}
+use Rattle.exact.specs.Questions.{better, extreme, for_question}
 use Rattle.exact.specs.declared.Question.{Question}
 use Rattle.exact.specs.declared.Question.TheVariants.{Greatest, Least}
 use Rattle.model.specs.Job.{Effect, Limit, Live, HasTraffic, Row, Job}
 use Rattle.model.specs.Rows.{row_value, best_chain, best_row, Governs, later_if_better, is_of, governing, state_value}
 use Rattle.model.specs.Traffic.{traffic_value}
-use Rattle.model.specs.Answered.{omits, traffic_in, extreme_of, reported_effect, GoverningRight, StateRight}
+use Rattle.model.specs.Answered.{omits, traffic_in, reported_effect, GoverningRight, StateRight}
 use Rattle.model.specs.declared.Account.{Account}
 use Rattle.model.specs.declared.Governing.{Governing}
-use Rattle.model.specs.declared.State.{State}
-use Rattle.model.specs.declared.State.TheVariants.{Absent, Reported}
+use Rattle.model.specs.Answers.{State}
 use Rattle.model.proofs.Lanes.{Spaced}
 use Rattle.model.proofs.LineLimits.{OneSigned}
 use Rattle.model.proofs.States.{no_row, governing_row, unbeaten_unladen_lem, unbeaten_laden}
@@ -37,7 +36,7 @@ module _ (job : Job) (patch : List ℕ) (a : Account) (limit : Limit) (signed : 
   -- the values in hand are the job's, and the reported placements give them
   pub record Given (q : Question) (traffic : Live → ℤ) : Type 0 where
     pub values : (live : Live) → traffic live ≡ traffic_value q job live
-    pub gives : (live : Live) → HasTraffic live → reported_effect q job patch a live (extreme_of q (traffic_in a live)).placement ≡ traffic_value q job live
+    pub gives : (live : Live) → HasTraffic live → reported_effect q job patch a live (for_question q (traffic_in a live)).placement ≡ traffic_value q job live
 
   same_value : (q : Question) (traffic : Live → ℤ) → Given q traffic → state_value q job limit ≡ governs q job.effect job.row traffic limit job.rows
   same_value q traffic g = governing_cong q job.row _ _ limit job.rows (λ r. best_cong q job.effect (traffic_value q job) traffic (job.row r) (sym (g.values (job.row r).live)))
@@ -65,5 +64,5 @@ module _ (job : Job) (patch : List ℕ) (a : Account) (limit : Limit) (signed : 
 
   -- the state
   pub state_right : (traffic : Question → Live → ℤ) (s : State) → ((q : Question) → Given q (traffic q)) → StateFound job.effect job.row traffic limit job.rows s → StateRight job patch a limit s
-  state_right traffic Absent g f = no_row Greatest job limit (same_value Greatest (traffic Greatest) (g Greatest) ∙ f Greatest)
-  state_right traffic (Reported x y) g f = (row_right Greatest (traffic Greatest) x (g Greatest) f.0, row_right Least (traffic Least) y (g Least) f.1)
+  state_right traffic None g f = no_row Greatest job limit (same_value Greatest (traffic Greatest) (g Greatest) ∙ f Greatest)
+  state_right traffic (Some x) g f = (row_right Greatest (traffic Greatest) x.greatest (g Greatest) (f Greatest), row_right Least (traffic Least) x.least (g Least) (f Least))

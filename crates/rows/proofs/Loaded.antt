@@ -4,7 +4,6 @@ use mathlib.Core.Path.{◌≡◌, refl, sym, ◌∙◌, ap, ap₂, subst}
 use mathlib.Core.Bool.{Bool, true, false, true≢false}
 use Prim.Native.Nat.{ℕ, ◌≤◌}
 use native.Mathlib.Omega.{arith}
-use lib.Dec.{eqb}
 use lib.IntN.{ℤ, pos, ◌+ℤ◌, ◌*ℤ◌}
 use Rattle.exact.specs.Questions.{better, beats, NoBetter, extreme}
 use Rattle.exact.specs.declared.Question.{Question}
@@ -15,24 +14,23 @@ use Rattle.exact.proofs.Ring.{◌⊕◌, ◌⊗◌, lit, ◌≐◌, solve}
 use Rattle.model.specs.Decode.{live_of}
 use Rattle.model.specs.Job.{Effect, Live, Row}
 use Rattle.model.specs.Rows.{row_value, best_chain, best_row}
-use Rattle.model.specs.declared.Governing.{Governing}
+use Rattle.model.specs.declared.{ByLive.ByLive, Governing.Governing}
 use Rattle.omissions.specs.declared.Chained.{Chained}
 use Rattle.omissions.specs.Chained.{ChainRight}
-use Rattle.rows.specs.declared.state.LiveValues.{LiveValues}
-use Rattle.rows.specs.Governed.{live_value, laden_row, AlternativeRight, RowRight, later_row}
+use Rattle.rows.specs.Governed.{live_value, laden_row, AlternativeRight, RowRight, better_row}
 
 -- the value that each number of a live kind takes
-pub kind_normal : (v : LiveValues) (k : ℕ) → k ≡ 1 → live_value v (live_of k) ≡ v.normal
+pub kind_normal : (v : ByLive ℤ) (k : ℕ) → k ≡ 1 → live_value v (live_of k) ≡ v.normal
 kind_normal v k e = rw e refl
 
-pub kind_overload : (v : LiveValues) (k : ℕ) → k ≡ 2 → live_value v (live_of k) ≡ v.overload
+pub kind_overload : (v : ByLive ℤ) (k : ℕ) → k ≡ 2 → live_value v (live_of k) ≡ v.overload
 kind_overload v k e = rw e refl
 
-pub kind_none : (v : LiveValues) (k : ℕ) → k ≤ 2 → ¬ (k ≡ 1) → ¬ (k ≡ 2) → live_value v (live_of k) ≡ pos 0
+pub kind_none : (v : ByLive ℤ) (k : ℕ) → k ≤ 2 → ¬ (k ≡ 1) → ¬ (k ≡ 2) → live_value v (live_of k) ≡ pos 0
 kind_none v k h f g = let e : k ≡ 0 = omega arith in rw e refl
 
 -- ---- a row by an alternative's chain and its traffic
-module _ (q : Question) (effect : ℕ → Effect) (row : Row) (v : LiveValues) (a : ℕ) (x : Chained) (right : ChainRight q effect (row.chain a) x) where
+module _ (q : Question) (effect : ℕ → Effect) (row : Row) (v : ByLive ℤ) (a : ℕ) (x : Chained) (right : ChainRight q effect (row.chain a) x) where
   abbrev own : ℤ
   own = pos row.factor *ℤ live_value v row.live
 
@@ -110,14 +108,13 @@ module _ (q : Question) (effect : ℕ → Effect) (row : ℕ → Row) (traffic :
   best_of_both x y w z one f g = no_better_antisym q (w +ℤ z) (better q x y +ℤ z) (no_better_add q w (better q x y) z z one (no_better_refl q z)) (better_ind q (λ v. NoBetter q (v +ℤ z) (w +ℤ z)) x y f g)
 
   -- there are two, of which the later counts if it is better
-  pub two_alternatives : (r : ℕ) (x y : Governing) → eqb r 0 ≡ false → (row r).others ≡ 1 → x.row ≡ r → y.row ≡ r → x.k ≡ (row r).k 0 → y.k ≡ (row r).k 1 →
-      AlternativeRight q effect (row r) traffic 0 x → AlternativeRight q effect (row r) traffic 1 y → Its r (later_row q x y)
+  pub two_alternatives : (r : ℕ) (x y : Governing) → (row r).others ≡ 1 → x.row ≡ r → y.row ≡ r → x.k ≡ (row r).k 0 → y.k ≡ (row r).k 1 →
+      AlternativeRight q effect (row r) traffic 0 x → AlternativeRight q effect (row r) traffic 1 y → Its r (better_row q x y)
   unfolding best_row
-  two_alternatives r x y there two ex ey kx ky rx ry =
-      subst (λ (t : Bool). Its r (if t then y else (if beats q y.value x.value then y else x))) (sym (ap (λ (n : ℕ). eqb n 0) ex ∙ there))
-      (by_test (beats q y.value x.value) (λ t. Its r (if t then y else x))
+  two_alternatives r x y two ex ey kx ky rx ry =
+      by_test (beats q y.value x.value) (λ t. Its r (if t then y else x))
       (λ e. by_alternative r 1 y ey (rw two (omega arith)) ky (ry.value ∙ best_of_both (best 0) (best 1) (best 1) (load r) (better_right q (best 0) (best 1)) (subst₂ rx.value ry.value (beats_yes q y.value x.value e).0) (no_better_refl q _) ∙ whole) ry)
-      (λ e. by_alternative r 0 x ex (rw two (omega arith)) kx (rx.value ∙ best_of_both (best 0) (best 1) (best 0) (load r) (better_left q (best 0) (best 1)) (no_better_refl q _) (subst₂ ry.value rx.value (beats_no q y.value x.value e).0) ∙ whole) rx))
+      (λ e. by_alternative r 0 x ex (rw two (omega arith)) kx (rx.value ∙ best_of_both (best 0) (best 1) (best 0) (load r) (better_left q (best 0) (best 1)) (no_better_refl q _) (subst₂ ry.value rx.value (beats_no q y.value x.value e).0) ∙ whole) rx)
     where
       best : ℕ → ℤ
       best a = best_chain q effect ((row r).chain a)

@@ -1,9 +1,8 @@
 -- The records walked of a job are at most R times E, for a chain names each effect at most once.
-use mathlib.Core.Path.{◌≡◌, refl, ◌∙◌, ap}
-use mathlib.Core.Bool.{Bool, true, false}
+use mathlib.Core.Path.{◌≡◌, ◌∙◌, ap}
 use Rattle.std.specs.Prelude.{None}
 use mathlib.Core.List.{List}
-use Prim.Native.Nat.{ℕ, ◌+◌, ◌*◌, ◌≤◌}
+use Prim.Native.Nat.{ℕ, ◌*◌, ◌≤◌}
 use native.Mathlib.Nat.{le_refl, le_trans, mul-le-mul_right}
 use native.Mathlib.Omega.{arith}
 use lib.ListN.{length}
@@ -21,15 +20,7 @@ use Rattle.model.proofs.RecordsWalked.{rural_none, walked_most}
 use Rattle.omissions.proofs.Few.{few}
 use Rattle.omissions.proofs.Omissions.{terms_named}
 use Rattle.rows.specs.Tables.{TablesFit}
-use Rattle.rows.specs.Governed.{with_row}
-use Rattle.rows.specs.declared.state.RowWalked.{RowWalked}
-use Rattle.rows.specs.declared.state.Found.{Found}
 use Rattle.rows.proofs.Sections.{inside, tables_fit}
-
--- a row of either state adds its chain's
-pub with_more : (b : Bool) (x : Found) (next : RowWalked) → (with_row b x next).walked ≡ x.walked + next.length
-with_more true x next = refl
-with_more false x next = refl
 
 module _ {e w s : List ℕ} {head : Header} (fits : TablesFit e w s head) where
   -- no chain is longer than the effects that records name: it names each at most once

@@ -9,25 +9,26 @@ use Rattle.groups.specs.FactorLines.{line_row, line_alternative}
 use Rattle.rows.proofs.Loaded.{laden_is}
 use Rattle.rows.proofs.state.by_line.Goals as goal
 
-pub line_loaded-most-requires : goal.line_loaded-most-requires
-line_loaded-most-requires c = (c.requires.2, c.requires.3 Greatest)
+pub line_loaded-requires : goal.line_loaded-requires
+line_loaded-requires c = (c.requires.2, c.requires.3 Greatest)
 
-pub line_loaded-least-requires : goal.line_loaded-least-requires
-line_loaded-least-requires c = (c.requires.2, c.requires.3 Least)
+pub line_loaded-requires-2 : goal.line_loaded-requires-2
+line_loaded-requires-2 c = (c.requires.2, c.requires.3 Least)
 
 pub laden_both-requires : goal.laden_both-requires
 laden_both-requires c =
-    let chain = c.of_group-c.ensures in
-    let most = c.line_loaded-most in
-    let least = c.line_loaded-least in
-    ((chain Greatest).near, (chain Least).near, (told (got w64 most.type_inv most.ensures)).1, (told (got w64 least.type_inv least.ensures)).1)
+    let chain = c.of_group.ensures in
+    let most = c.line_loaded in
+    let least = c.line_loaded-2 in
+    by_question _ ((chain Greatest).near, (told (got w64 most.type_inv most.ensures)).1) ((chain Least).near, (told (got w64 least.type_inv least.ensures)).1)
 
 pub returns : goal.returns
 returns c =
     let a = c.args in
-    let chain = c.of_group-c.ensures in
-    let most = c.line_loaded-most in
-    let least = c.line_loaded-least in
+    let chain = c.of_group.ensures in
+    let best = c.laden_both.ensures in
+    let most = c.line_loaded in
+    let least = c.line_loaded-2 in
     by_question _
-    (laden_is Greatest (effect_at kilonewtons a.effects.now) (group_row (line_row a.line)) a.live.greatest (line_alternative a.line) _ (chain Greatest) a.r a.k c.laden_both.ensures.0 (got w64 most.type_inv most.ensures).is)
-    (laden_is Least (effect_at kilonewtons a.effects.now) (group_row (line_row a.line)) a.live.least (line_alternative a.line) _ (chain Least) a.r a.k c.laden_both.ensures.1 (got w64 least.type_inv least.ensures).is)
+    (laden_is Greatest (effect_at kilonewtons a.effects.now) (group_row (line_row a.line)) a.live.greatest (line_alternative a.line) _ (chain Greatest) a.r a.k (best Greatest) (got w64 most.type_inv most.ensures).is)
+    (laden_is Least (effect_at kilonewtons a.effects.now) (group_row (line_row a.line)) a.live.least (line_alternative a.line) _ (chain Least) a.r a.k (best Least) (got w64 least.type_inv least.ensures).is)

@@ -22,9 +22,9 @@ factor line factors e h =
     subst (λ (k : ℕ). Held w64 (get_or factors 0 0) 3000 (pos k)) is (nat w64 3000 small (omega arith))
 
 pub overflow_mul-result : goal.overflow_mul-result
-overflow_mul-result c = times! (factor c.args.line _ c.factors-factors.ensures c.requires.0) (known w64 c.requires.1.0 (lit< tt)) (lit< tt)
+overflow_mul-result c = times! (factor c.args.line _ c.factors.ensures c.requires.0) (known w64 c.requires.1.0 (lit< tt)) (lit< tt)
 
 pub returns : goal.returns
 returns c =
     let a = c.args in
-    told (retold (times (factor a.line _ c.factors-factors.ensures c.requires.0) (known w64 c.requires.1.0 (lit< tt)) (lit< tt)) (line_load a.live a.line))
+    told (retold (times (factor a.line _ c.factors.ensures c.requires.0) (known w64 c.requires.1.0 (lit< tt)) (lit< tt)) (line_load a.live a.line))

@@ -1,16 +1,38 @@
-use Rattle.model.specs.Format.{profile_of, effect_unit}
-use Rattle.model.specs.Decode.{effect_at, row_count, row_of}
-use Rattle.model.specs.Job.{service, ultimate}
+use mathlib.Core.Path.{◌≡◌, sym, ◌∙◌, ap₂}
+use Prim.Native.Nat.{ℕ, ◌+◌, ◌≤◌}
+use native.Mathlib.Omega.{arith}
+use Rattle.model.specs.Job.{Profile, Row}
+use Rattle.model.specs.RecordsWalked.{chain_length, walked_to}
+use Rattle.model.proofs.RecordsWalked.{walked_start, walked_next}
+use Rattle.rows.specs.Tables.{profile_in, effect_in, row_in, rows_in}
 use Rattle.rows.specs.Governed.{traffic_of}
-use Rattle.rows.proofs.Choosing.{by_limit, state_found}
+use Rattle.rows.proofs.Choosing.{by_limit, found_none, found_next}
+use Rattle.rows.proofs.RecordsWalked.{walked_near}
 use Rattle.rows.proofs.state.states.Goals as goal
 
-pub returns-clause-state_found : goal.returns-clause-state_found
-returns-clause-state_found c =
-    let a = c.args in
-    let p = profile_of a.head.edition in
-    let effect = effect_at (effect_unit a.head.edition) a.effects.now in
-    let row = row_of p a.rows.now a.records.now a.head.records in
-    let n = row_count p a.head.rows in
-    let found = c.governing-found.ensures.found_right in
-    by_limit _ (rw c.state.ensures (state_found effect row (traffic_of a.live) service n _ (found service))) (rw c.state-2.ensures (state_found effect row (traffic_of a.live) ultimate n _ (found ultimate)))
+-- with a row's records, the records walked of one row more
+more : (p : Profile) (row : ℕ → Row) (i : ℕ) {m n : ℕ} → m ≡ walked_to p row i → n ≡ chain_length p (row (i + 1)) → m + n ≡ walked_to p row (i + 1)
+more p row i e f = ap₂ (λ (m n : ℕ). m + n) e f ∙ sym (walked_next p row i)
+
+pub loop-i-init : goal.loop-i-init
+loop-i-init c =
+    let t = c.args.tables in
+    let none = found_none (effect_in t) (row_in t) (traffic_of c.args.live) in
+    (by_limit _ (none _) (none _), sym (walked_start (profile_in t) (row_in t)), c.row_count-i-end.ensures)
+
+pub overflow_add-walked : goal.overflow_add-walked
+overflow_add-walked c =
+    let t = c.args.tables in
+    let i = c.loop-i.i in
+    let last : i + 1 ≤ rows_in t = omega (arith, c.row_count-i-end.ensures) in
+    omega (arith, more (profile_in t) (row_in t) i c.loop-i.invariant.1 c.row-next.ensures.length_value, walked_near c.requires.0 (profile_in t) (i + 1) last)
+
+pub loop-i-preserved : goal.loop-i-preserved
+loop-i-preserved c =
+    let t = c.args.tables in
+    let l = c.loop-i in
+    let next = c.row-next in (
+      rw c.with_row-states.ensures (found_next (effect_in t) (row_in t) (traffic_of c.args.live) l.i c.is_of_service.result l.states next.result.best c.is_of_service.ensures next.ensures.best_value l.invariant.0),
+      more (profile_in t) (row_in t) l.i l.invariant.1 next.ensures.length_value,
+      c.row_count-i-end.ensures,
+    )
