@@ -4,9 +4,11 @@ use mathlib.Core.List.{List}
 use Prim.Native.Nat.{ℕ, suc, ◌+◌, ◌-◌, ◌*◌, ◌≤◌, ◌<◌}
 use native.Mathlib.Numerals.{add-one}
 use native.Mathlib.Omega.{arith}
-use lib.ListN.{length, get_or}
-use Rattle.exact.proofs.Ranges.{get_or_list_of}
-use Rattle.buffer.specs.Stored.{Stored}
+use lib.ListN.{length, take, get_or}
+use lib.Seq.{get_or-take, length-take-le}
+use Rattle.exact.proofs.Ranges.{length_list_of, get_or_list_of}
+use Rattle.buffer.specs.Stored.{Puts}
+use Rattle.buffer.specs.declared.Cursor.{Cursor}
 use Rattle.buffer.proofs.Stores.{and_then, retold}
 use Rattle.model.specs.Decode.{first_record, terms_from}
 use Rattle.model.specs.Format.{bytes}
@@ -20,14 +22,16 @@ use Rattle.tables.proofs.Gathered.{listed}
 
 -- ---- a row's terms
 module _ (records : List ℕ) (left n : ℕ) (few : n ≤ 16) where
-  -- by its factors as they are listed
-  pub chain_terms_lem : (found : List ℕ) (first : ℕ) → found ≡ listed (terms_from records left first) → terms_in found n ≡ chain_terms records left n first
+  -- by the factors of its n effects
+  pub chain_terms_lem : (found : List ℕ) (first : ℕ) → found ≡ listed (terms_from records left first) → terms_in (take n found) (length (take n found)) ≡ chain_terms records left n first
   unfolding chain_terms
   chain_terms_lem found first e =
       let chain = terms_from records left first in
-      ap (λ (l : List ℕ). terms_in l n) e
-      ∙ rising_cong (λ e. get_or (listed chain) (e - 1) 0) (factor_of chain) 1 n
-      (λ d l m. let back : suc (d - 1) ≡ d = omega arith in get_or_list_of 16 (λ j. factor_of chain (suc j)) (d - 1) 0 (omega arith) ∙ ap (factor_of chain) back)
+      let size : length (take n found) ≡ n = length-take-le n found (omega (arith, ap length e, length_list_of 16 (λ j. factor_of chain (suc j)))) in
+      ap (terms_in (take n found)) size
+      ∙ rising_cong (λ e. get_or (take n found) (e - 1) 0) (factor_of chain) 1 n λ d l m.
+      let back : suc (d - 1) ≡ d = omega arith in
+      get_or-take n found (d - 1) 0 (omega arith) ∙ ap (λ (s : List ℕ). get_or s (d - 1) 0) e ∙ get_or_list_of 16 (λ j. factor_of chain (suc j)) (d - 1) 0 (omega arith) ∙ ap (factor_of chain) back
 
   chain_few : (first : ℕ) → length (chain_terms records left n first) ≤ 16
   unfolding chain_terms
@@ -50,5 +54,5 @@ module _ {rows records : List ℕ} {head : Header} (read : ChainsRead rows recor
 pub records_on : (terms : ℕ → List Term) (i : ℕ) → records_to (i + 1) terms ≡ records_to i terms + length (terms (suc i))
 records_on terms i = ap (λ (k : ℕ). records_to k terms) (add-one i)
 
-pub joined_on : {s w v : List ℕ} {at p q : ℕ} (item : ℕ → List ℕ) (i : ℕ) → Stored s at (joined i item) w p → Stored w p (item i) v q → Stored s at (joined (i + 1) item) v q
+pub joined_on : {w v u : Cursor} (item : ℕ → List ℕ) (i : ℕ) → Puts w (joined i item) v → Puts v (item i) u → Puts w (joined (i + 1) item) u
 joined_on item i first next = retold (sym (ap (λ (k : ℕ). joined k item) (add-one i))) (and_then first next)

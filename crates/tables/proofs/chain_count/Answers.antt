@@ -5,6 +5,5 @@ use Rattle.tables.proofs.chain_count.Goals as goal
 
 pub returns : goal.returns
 returns c =
-    let found = c.factors-f in
     let a = c.args in
-    c.count.ensures ∙ ap length (chain_terms_lem a.records.now a.left a.n c.requires.2 found.result a.first found.ensures)
+    c.count.ensures ∙ ap length (chain_terms_lem a.records.now a.left a.n c.requires.2 c.factors.result a.first c.factors.ensures)

@@ -9,5 +9,5 @@ use Rattle.tables.proofs.total.Goals as goal
 pub overflow_add-sum : goal.overflow_add-sum
 overflow_add-sum c =
     let l = c.loop-i in
-    let counted : c.chain_count-sum.result ≡ length (table_terms c.args.rows.now c.args.records.now c.args.head (suc l.i)) = rw (sym c.first_record-first.ensures) c.chain_count-sum.ensures in
-    omega (arith, l.invariant.1, counted, records_few c.requires l.i (omega arith))
+    let counted : c.chain_count-sum.result ≡ length (table_terms c.args.rows.now c.args.records.now c.args.head (suc l.i)) = rw (sym c.first_record.ensures) c.chain_count-sum.ensures in
+    omega (arith, l.invariant, counted, records_few c.requires l.i (omega arith))
