@@ -1,7 +1,12 @@
 -- What an answer is made of, where its types are the library's or have a value for each question.
 use Rattle.std.specs.Prelude.{Option, Result}
 use Rattle.exact.specs.declared.ByQuestion.{ByQuestion}
-use Rattle.model.specs.declared.{Extreme.Extreme, Governing.Governing, Account.Account, Refusal.Refusal}
+use Rattle.model.specs.declared.{Sense.Sense, Sense.TheVariants.Raising, Sense.TheVariants.Lowering, BySense.BySense, Extreme.Extreme, Governing.Governing, Account.Account, Refusal.Refusal}
+
+-- a sense's value of the two
+abbrev pub for_sense : {A : Type 0} → Sense → BySense A → A
+for_sense Raising x = x.raising
+for_sense Lowering x = x.lowering
 
 -- the greatest and the least of a live kind
 abbrev pub Traffic : Type 0
