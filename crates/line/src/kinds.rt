@@ -1,6 +1,6 @@
 // The element kinds: the loads of each, and its line effect.
 ghost use Rattle.std.specs.Prelude.{◌≡◌};
-ghost use Rattle.model.specs.Line.{axle};
+ghost use Rattle.model.specs.Line.{axle, uniform};
 ghost use Rattle.line.specs.Sought.{SoughtNear, kind_of, EffectRight};
 
 use crate::sought::Sought;
@@ -11,9 +11,6 @@ pub enum Kind {
     Hn,
     Ho,
 }
-
-// Uniform load of either kind on 1 dm of an ordinate sum of 1, in 75 N·U.
-const UNIFORM: i64 = 7;
 
 impl Kind {
     // An axle on an ordinate of 1, in 75 N·U.
@@ -26,11 +23,21 @@ impl Kind {
         }
     }
 
+    // Uniform load on 1 dm of an ordinate sum of 1, in 75 N·U.
+    fn uniform(self) -> i64
+        ensures { result ≡ uniform }
+    {
+        match self {
+            Kind::Hn => 7,
+            Kind::Ho => 7,
+        }
+    }
+
     // The line effect, by what its sense seeks.
     pub fn effect(self, s: Sought) -> i64
         requires { SoughtNear s }
         ensures { EffectRight (kind_of self) s result }
     {
-        UNIFORM * s.area + self.axle() * (s.pair as i64)
+        self.uniform() * s.area + self.axle() * (s.pair as i64)
     }
 }
