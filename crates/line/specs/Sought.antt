@@ -4,14 +4,15 @@ use Rattle.exact.specs.Bounds.{Within}
 use Rattle.exact.specs.Ranges.{sum_to}
 use Rattle.magnitudes.specs.Magnitudes.{pair_most, area_most, line_most}
 use Rattle.model.specs.Job.{Piece, InfluenceLine}
-use Rattle.model.specs.Line.{Kind, axle_spacing, sought, end_sum, patch_byte, loaded_byte, best_pair, line_effect}
+use Rattle.model.specs.Line.{Kind, HN, HO, axle_spacing, sought, end_sum, patch_byte, loaded_byte, best_pair, line_effect}
 use Rattle.model.specs.Answered.{PositionRight}
 use Rattle.model.specs.declared.Sense.{Sense}
-use Rattle.model.specs.declared.Sense.TheVariants.{Raising, Lowering}
+use Rattle.model.specs.declared.BySense.{BySense}
+use Rattle.model.specs.Answers.{for_sense}
 use Rattle.pair.specs.PairPlaces.{placed, best_rank}
-use Rattle.line.specs.declared.pieces.Areas.{Areas}
-use Rattle.line.specs.declared.effect.Sought.{Sought}
-use Rattle.line.specs.declared.effect.Senses.{Senses}
+use Rattle.line.specs.declared.sought.Sought.{Sought}
+use Rattle.line.specs.declared.kinds.Kind.{Kind as CodeKind}
+use Rattle.line.specs.declared.kinds.Kind.TheVariants.{Hn, Ho}
 
 -- a piece's ordinate sum where an element of the sense loads it, else 0
 abbrev pub loaded_sum : Sense → Piece → ℤ
@@ -20,11 +21,6 @@ loaded_sum sense p = if eqb (patch_byte p) (loaded_byte sense) then end_sum p el
 -- twice the line's area over a sense's whole pieces, in dm·U: h times (a + b) each
 unfoldable pub double_area : InfluenceLine → Sense → ℤ
 double_area line sense = pos line.h *ℤ sum_to line.pieces (λ i. loaded_sum sense (line.piece i))
-
--- a sense's area
-abbrev pub area_for : Sense → Areas → ℤ
-area_for Raising a = a.raising
-area_for Lowering a = a.lowering
 
 -- what is sought is near enough to 0 to go on into arithmetic
 pub record SoughtNear (s : Sought) : Type 0 where
@@ -45,14 +41,14 @@ pub record SoughtRight (line : InfluenceLine) (sense : Sense) (s : Sought) : Typ
   pub position : PositionRight line sense s.position
   pub near : SoughtNear s
 
--- what a sense seeks
-abbrev pub sought_for : Sense → Senses → Sought
-sought_for Raising s = s.raising
-sought_for Lowering s = s.lowering
-
 -- what both senses seek is right
-abbrev pub SensesRight : InfluenceLine → Senses → Type 0
-SensesRight line s = (sense : Sense) → SoughtRight line sense (sought_for sense s)
+abbrev pub SensesRight : InfluenceLine → BySense Sought → Type 0
+SensesRight line s = (sense : Sense) → SoughtRight line sense (for_sense sense s)
+
+-- the kind that the code means
+abbrev pub kind_of : CodeKind → Kind
+kind_of Hn = HN
+kind_of Ho = HO
 
 -- a kind's line effect, in 75 N·U, on every line of which that is sought; near enough to go on
 pub record EffectRight (kind : Kind) (s : Sought) (r : ℤ) : Type 0 where

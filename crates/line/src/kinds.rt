@@ -1,43 +1,43 @@
 // The element kinds: the loads of each, and its line effect.
-ghost use Rattle.model.specs.Line.{HN, HO};
-ghost use Rattle.line.specs.Sought.{SoughtNear, EffectRight};
+ghost use Rattle.std.specs.Prelude.{◌≡◌};
+ghost use Rattle.model.specs.Line.{axle, uniform};
+ghost use Rattle.line.specs.Sought.{SoughtNear, kind_of, EffectRight};
 
-use crate::effect;
-use crate::effect::Sought;
+use crate::sought::Sought;
 
-// The normal element.
+// The normal and the overload element.
 #[derive(Clone, Copy)]
-pub struct Hn {}
-
-impl Hn {
-    // An axle on an ordinate of 1, in 75 N·U.
-    pub const AXLE: i64 = 1600;
-
-    // Uniform load on 1 dm of an ordinate sum of 1, in 75 N·U.
-    pub const UNIFORM: i64 = 7;
-
-    // Its line effect, by what its sense seeks.
-    pub fn effect(s: Sought) -> i64
-        requires { SoughtNear s }
-        ensures { EffectRight HN s result }
-    {
-        effect::effect(Hn::UNIFORM, Hn::AXLE, s)
-    }
+pub enum Kind {
+    Hn,
+    Ho,
 }
 
-// The overload element.
-#[derive(Clone, Copy)]
-pub struct Ho {}
-
-impl Ho {
-    pub const AXLE: i64 = 3200;
-
-    pub const UNIFORM: i64 = Hn::UNIFORM;
-
-    pub fn effect(s: Sought) -> i64
-        requires { SoughtNear s }
-        ensures { EffectRight HO s result }
+impl Kind {
+    // An axle on an ordinate of 1, in 75 N·U.
+    fn axle(self) -> i64
+        ensures { result ≡ axle (kind_of self) }
     {
-        effect::effect(Ho::UNIFORM, Ho::AXLE, s)
+        match self {
+            Kind::Hn => 1600,
+            Kind::Ho => 3200,
+        }
+    }
+
+    // Uniform load on 1 dm of an ordinate sum of 1, in 75 N·U.
+    fn uniform(self) -> i64
+        ensures { result ≡ uniform }
+    {
+        match self {
+            Kind::Hn => 7,
+            Kind::Ho => 7,
+        }
+    }
+
+    // The line effect, by what its sense seeks.
+    pub fn effect(self, s: Sought) -> i64
+        requires { SoughtNear s }
+        ensures { EffectRight (kind_of self) s result }
+    {
+        self.uniform() * s.area + self.axle() * (s.pair as i64)
     }
 }

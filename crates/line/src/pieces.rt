@@ -3,14 +3,15 @@ ghost use Rattle.std.specs.Prelude.{◌≡◌, ◌++◌, ℕ, ◌*◌, ◌≤◌
 ghost use Rattle.exact.specs.Bounds.{Within};
 ghost use Rattle.exact.specs.Questions.{beats};
 ghost use Rattle.magnitudes.specs.Magnitudes.{pair_most, area_most};
+ghost use Rattle.model.specs.Answers.{for_sense};
 ghost use Rattle.model.specs.Decode.{piece_at, influence_line};
 ghost use Rattle.model.specs.declared.Sense.{Sense};
 ghost use Rattle.model.specs.Line.{end_sum, patch_byte, patch_bytes, loaded_byte, sought};
 ghost use Rattle.pair.specs.LineFits.{LineFits};
 ghost use Rattle.line.specs.PieceFits.{PieceFits};
-ghost use Rattle.line.specs.Sought.{loaded_sum, double_area, area_for};
+ghost use Rattle.line.specs.Sought.{loaded_sum, double_area};
 
-use model::Sense;
+use model::{BySense, Sense};
 
 // Piece i's ordinate sum a + b.
 fn end_sum(line: &[u8], i: usize) -> i16
@@ -46,9 +47,10 @@ fn byte_where_loaded(sense: Sense, sum: i16) -> u8
     ensures { (result ≡ (if beats (sought sense) sum (pos 0) then loaded_byte sense else 0)) × (result ≤ 2) }
 {
     if loads(sense, sum) {
-        return loaded_byte(sense);
+        loaded_byte(sense)
+    } else {
+        0
     }
-    0
 }
 
 // Piece i's patch byte.
@@ -66,24 +68,14 @@ fn loaded_sum(line: &[u8], i: usize, sense: Sense) -> i16
     ensures { (result ≡ loaded_sum sense (piece_at line.now i)) × Within pair_most result }
 {
     let sum = end_sum(line, i);
-    if loads(sense, sum) {
-        return sum;
-    }
-    0
+    if loads(sense, sum) { sum } else { 0 }
 }
 
-// Twice the line's area over the pieces that each sense loads, in dm·U.
-#[derive(Clone, Copy)]
-pub struct Areas {
-    pub raising: i64,
-    pub lowering: i64,
-}
-
-// Both areas of a line of n pieces of h dm.
-pub(crate) fn double_areas(line: &[u8], h: usize, n: usize) -> Areas
+// Twice the area of a line of n pieces of h dm, over those that each sense loads, in dm·U.
+pub(crate) fn double_areas(line: &[u8], h: usize, n: usize) -> BySense<i64>
     requires line_fits { LineFits line.now n }
     requires h_bound { (h ≤ 50) × (n * h ≤ 1000) }
-    ensures { (sense : Sense) → (area_for sense result ≡ double_area (influence_line line.now h n) sense) × Within area_most (area_for sense result) }
+    ensures { (sense : Sense) → (for_sense sense result ≡ double_area (influence_line line.now h n) sense) × Within area_most (for_sense sense result) }
 {
     let mut raised: i32 = 0;
     let mut lowered: i32 = 0;
@@ -91,7 +83,7 @@ pub(crate) fn double_areas(line: &[u8], h: usize, n: usize) -> Areas
         raised += loaded_sum(line, i, Sense::Raising) as i32;
         lowered += loaded_sum(line, i, Sense::Lowering) as i32;
     }
-    Areas {
+    BySense {
         raising: (h as i64) * (raised as i64),
         lowering: (h as i64) * (lowered as i64),
     }
@@ -103,7 +95,7 @@ pub fn mark(line: &[u8], n: usize, patch: &mut [u8])
     requires n_in_bounds { n ≤ length patch.old }
     ensures { (h : ℕ) → patch.new ≡ patch_bytes (influence_line line.now h n) ++ drop n patch.old }
 {
-    for i in 0..n {
-        patch[i] = patch_byte(line, i);
+    for (i, byte) in patch[..n].iter_mut().enumerate() {
+        *byte = patch_byte(line, i);
     }
 }

@@ -13,7 +13,7 @@ use lib.Signed.{◌≤ℤ◌}
 use borrow.Author.Tests.{eq-eqb, ne_eqb, lt-ltb}
 use Rattle.exact.specs.Bounds.{Within}
 use Rattle.exact.specs.Parts.{up}
-use Rattle.exact.specs.Questions.{better, NoBetter}
+use Rattle.exact.specs.Questions.{better, NoBetter, for_question}
 use Rattle.exact.specs.declared.Question.{Question}
 use Rattle.exact.specs.declared.Question.TheVariants.{Greatest, Least}
 use Rattle.exact.proofs.Bounds.{within_pos, within_neg, within_add, within_mul}
@@ -29,8 +29,8 @@ use Rattle.model.specs.declared.Side.{Side}
 use Rattle.model.specs.declared.Side.TheVariants.{Left, Right}
 use Rattle.model.proofs.Signs.{off_left, off_right}
 use Rattle.pair.specs.LineFits.{LineFits}
-use Rattle.pair.specs.PairPlaces.{pair_at, side_at, placed, turned, rank_of, rank_most, best_rank, rank_for, RanksRight}
-use Rattle.pair.specs.declared.Ranks.{Ranks}
+use Rattle.pair.specs.PairPlaces.{pair_at, side_at, placed, turned, rank_of, rank_most, best_rank, RanksRight}
+use Rattle.exact.specs.declared.ByQuestion.{ByQuestion}
 
 -- ---- one axle and the pair, at a station counted as the code counts it
 module _ (line : InfluenceLine) where
@@ -178,17 +178,17 @@ rank_raised q v p near =
     ∙ ap (λ (z : ℤ). pos 65536 *ℤ z +ℤ pos p) (raised (turned q v) (turn_near q near))
 
 -- one place more
-pub ranks_more : (f : ℕ → ℤ) (m : ℕ) {best r : Ranks} {v : ℤ} → ((q : Question) → rank_for q r ≡ better q (rank_for q best) (rank_of q v (m + 1))) → v ≡ f (m + 1) → RanksRight f m best → RanksRight f (m + 1) r
+pub ranks_more : (f : ℕ → ℤ) (m : ℕ) {best r : ByQuestion ℤ} {v : ℤ} → ((q : Question) → for_question q r ≡ better q (for_question q best) (rank_of q v (m + 1))) → v ≡ f (m + 1) → RanksRight f m best → RanksRight f (m + 1) r
 unfolding best_rank
 ranks_more f m step e right q = step q ∙ ap₂ (better q) (right q) (ap (λ (z : ℤ). rank_of q z (m + 1)) e) ∙ sym (extreme_step q m (λ p. rank_of q (f p) p))
 
 -- place 0 alone, where the pair counts nothing
-pub ranks_none : (f : ℕ → ℤ) {r : Ranks} → f 0 ≡ pos 0 → ((q : Question) → rank_for q r ≡ rank_of q (pos 0) 0) → RanksRight f 0 r
+pub ranks_none : (f : ℕ → ℤ) {r : ByQuestion ℤ} → f 0 ≡ pos 0 → ((q : Question) → for_question q r ≡ rank_of q (pos 0) 0) → RanksRight f 0 r
 unfolding best_rank
 ranks_none f start e q = e q ∙ ap (λ (z : ℤ). rank_of q z 0) (sym start)
 
 -- later places that count nothing change nothing
-pub ranks_skip : (f : ℕ → ℤ) (m k : ℕ) {r : Ranks} → m ≤ k → f 0 ≡ pos 0 → ((p : ℕ) → m < p → p ≤ k → f p ≡ pos 0) → RanksRight f m r → RanksRight f k r
+pub ranks_skip : (f : ℕ → ℤ) (m k : ℕ) {r : ByQuestion ℤ} → m ≤ k → f 0 ≡ pos 0 → ((p : ℕ) → m < p → p ≤ k → f p ≡ pos 0) → RanksRight f m r → RanksRight f k r
 unfolding best_rank
 ranks_skip f m k l start none right q =
     right q

@@ -1,6 +1,7 @@
 -- Where the axle pair stands, and what it counts there. Its places count stations and sides: place p is station p / 2, from the left where p is even.
 use Rattle.std.specs.Prelude.{ℕ, ◌+◌, ◌-◌, ◌*◌, ◌/◌, ◌%◌, ◌≤◌, List, ◌≡◌, ℤ, pos, neg_ℤ, ◌+ℤ◌, ◌*ℤ◌, eqb, if◌then◌else◌}
-use Rattle.exact.specs.Questions.{extreme}
+use Rattle.exact.specs.Questions.{extreme, for_question}
+use Rattle.exact.specs.declared.ByQuestion.{ByQuestion}
 use Rattle.exact.specs.declared.Question.{Question}
 use Rattle.exact.specs.declared.Question.TheVariants.{Greatest, Least}
 use Rattle.magnitudes.specs.Magnitudes.{pair_most}
@@ -10,7 +11,6 @@ use Rattle.model.specs.Line.{pair, station}
 use Rattle.model.specs.declared.Side.{Side}
 use Rattle.model.specs.declared.Side.TheVariants.{Left, Right}
 use Rattle.pair.specs.declared.Stand.{Stand}
-use Rattle.pair.specs.declared.Ranks.{Ranks}
 use Rattle.pair.specs.declared.Axles.{Axles}
 use Rattle.pair.specs.declared.Axles.TheVariants.{Ahead, Both, Behind}
 use Rattle.pair.specs.LineFits.{WordFits}
@@ -48,14 +48,9 @@ rank_most = 65536 * pair_most + 4095
 unfoldable pub best_rank : Question → (ℕ → ℤ) → ℕ → ℤ
 best_rank q f m = extreme q m (λ p. rank_of q (f p) p)
 
--- a question's rank
-abbrev pub rank_for : Question → Ranks → ℤ
-rank_for Greatest r = r.greatest
-rank_for Least r = r.least
-
 -- both ranks are the best of places 0 .. m
-abbrev pub RanksRight : (ℕ → ℤ) → ℕ → Ranks → Type 0
-RanksRight f m r = (q : Question) → rank_for q r ≡ best_rank q f m
+abbrev pub RanksRight : (ℕ → ℤ) → ℕ → ByQuestion ℤ → Type 0
+RanksRight f m r = (q : Question) → for_question q r ≡ best_rank q f m
 
 -- what the pair counts with its right axle on word k, the left one so many words behind: the words of the axles that are on the line
 abbrev pub count_of : List ℕ → Axles → ℕ → ℤ

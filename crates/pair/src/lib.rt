@@ -4,14 +4,14 @@
 
 ghost use Rattle.std.specs.Prelude.{◌≡◌, ℕ, ◌+◌, ◌-◌, ◌*◌, ◌/◌, ◌≤◌, ◌<◌, ℤ};
 ghost use Rattle.exact.specs.Bounds.{Within};
-ghost use Rattle.exact.specs.Questions.{better};
+ghost use Rattle.exact.specs.Questions.{better, for_question};
 ghost use Rattle.exact.specs.declared.Question.{Question};
 ghost use Rattle.magnitudes.specs.Magnitudes.{pair_most};
 ghost use Rattle.model.specs.Decode.{influence_line};
 ghost use Rattle.pair.specs.LineFits.{LineFits};
-ghost use Rattle.pair.specs.PairPlaces.{side_at, placed, stand_of, turned, rank_of, rank_most, rank_for, RanksRight, count_of, CountFits};
+ghost use Rattle.pair.specs.PairPlaces.{side_at, placed, stand_of, turned, rank_of, rank_most, RanksRight, count_of, CountFits};
 
-use exact::Question;
+use exact::{ByQuestion, Question};
 use model::Side;
 
 // The pair's axles are 50 dm apart: so many pieces.
@@ -63,25 +63,15 @@ fn improved(q: Question, best: i32, v: i16, place: usize) -> i32
     ensures { result ≡ better q best (rank_of q v place) }
 {
     let next = rank(q, v, place);
-    if exact::beats(q, next as i64, best as i64) {
-        return next;
-    }
-    best
-}
-
-// The best ranks, for greatest and for least.
-#[derive(Clone, Copy)]
-pub struct Ranks {
-    pub greatest: i32,
-    pub least: i32,
+    exact::better(q, best, next)
 }
 
 // The best ranks with one place more, where the pair counts v.
-fn ranked(best: Ranks, v: i16, place: usize) -> Ranks
+fn ranked(best: ByQuestion<i32>, v: i16, place: usize) -> ByQuestion<i32>
     requires { Within pair_most v × (place ≤ 4095) }
-    ensures { (q : Question) → rank_for q result ≡ better q (rank_for q best) (rank_of q v place) }
+    ensures { (q : Question) → for_question q result ≡ better q (for_question q best) (rank_of q v place) }
 {
-    Ranks {
+    ByQuestion {
         greatest: improved(Question::Greatest, best.greatest, v, place),
         least: improved(Question::Least, best.least, v, place),
     }
@@ -108,7 +98,13 @@ fn counted(line: &[u8], on: Axles, k: usize) -> i16
 }
 
 // The best ranks with those of the pair's right axle on the words from .. to.
-fn stretch(line: &[u8], on: Axles, from: usize, to: usize, sofar: Ranks) -> Ranks
+fn stretch(
+    line: &[u8],
+    on: Axles,
+    from: usize,
+    to: usize,
+    sofar: ByQuestion<i32>,
+) -> ByQuestion<i32>
     requires { (from ≤ to) × (to ≤ 4095) × ((k : ℕ) → from ≤ k → k < to → CountFits line.now on k) }
     ensures { (f : ℕ → ℤ) → ((k : ℕ) → from ≤ k → k < to → f (k + 1) ≡ count_of line.now on k) → RanksRight f from sofar → RanksRight f to result }
 {
@@ -119,22 +115,15 @@ fn stretch(line: &[u8], on: Axles, from: usize, to: usize, sofar: Ranks) -> Rank
     best
 }
 
-// The smaller count.
-fn lesser(a: usize, b: usize) -> usize
-    ensures { result ≡ a - (a - b) }
-{
-    if a <= b { a } else { b }
-}
-
 // The best ranks over all stations and both sides.
-pub fn best_ranks(line: &[u8], h: usize, n: usize) -> Ranks
+pub fn best_ranks(line: &[u8], h: usize, n: usize) -> ByQuestion<i32>
     requires { LineFits line.now n × (1 ≤ h) }
     ensures { RanksRight (placed (influence_line line.now h n)) (2 * (n + 50 / h) + 1) result }
 {
     let apart = places_apart(h);
     let end = model::PIECE_WORDS * n;
-    let edge = lesser(apart, end);
-    let none = Ranks {
+    let edge = apart.min(end);
+    let none = ByQuestion {
         greatest: rank(Question::Greatest, 0, 0),
         least: rank(Question::Least, 0, 0),
     };
@@ -162,10 +151,9 @@ pub fn stand_of(q: Question, rank: i32) -> Stand
 {
     let x = (turn(q, rank) + 65536 * 10001) as usize;
     let place = x % 65536;
-    let side = side_of(place);
     Stand {
         value: turn(q, ((x / 65536) as i32) - 10001) as i16,
         station: place / 2,
-        side,
+        side: side_of(place),
     }
 }

@@ -56,6 +56,6 @@ returns c =
     let value = ret w32 c.turn-2.type_inv (c.turn-2.ensures.0 ∙ ap (turned q) lowered.is) (turn_near q lowered.near) in (
       λ v p near small_place e.
           let whole = index_is sum (natural _ rank.near) ∙ raise_of q c.args.rank v p near e in
-          same ((cast value w16 (lit< tt)).is ∙ value_of q v _ near (high_part _ _ p whole small_place)) (low_part _ _ p whole small_place) c.side_of-side.ensures,
+          same ((cast value w16 (lit< tt)).is ∙ value_of q v _ near (high_part _ _ p whole small_place)) (low_part _ _ p whole small_place) c.side_of.ensures,
       omega arith,
     )

@@ -23,7 +23,7 @@ returns-then-loads c =
     let sum = got w16 c.end_sum-sum.type_inv c.end_sum-sum.ensures in
     rw (tested c.args.sense (piece_at c.args.line.now c.args.i) sum.is c.loads.ensures c.if-loads.true) (told sum)
 
-pub returns : goal.returns
-returns c =
+pub returns-else-loads : goal.returns-else-loads
+returns-else-loads c =
     let sum = got w16 c.end_sum-sum.type_inv c.end_sum-sum.ensures in
     rw (tested c.args.sense (piece_at c.args.line.now c.args.i) sum.is c.loads.ensures c.if-loads.false) (refl, within_pos 10000 (omega arith))

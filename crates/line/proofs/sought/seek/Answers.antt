@@ -9,23 +9,25 @@ use lib.IntN.{ℤ}
 use mir.Syntax.{w32, w64}
 use mir.Val.{SFits, to_z, of_z}
 use Rattle.exact.specs.Bounds.{Within}
+use Rattle.exact.specs.Questions.{for_question}
+use Rattle.exact.specs.declared.ByQuestion.{ByQuestion}
 use Rattle.exact.proofs.Held.{Held, told, any, known, retold}
 use Rattle.model.specs.Job.{InfluenceLine}
 use Rattle.model.specs.Decode.{influence_line}
 use Rattle.model.specs.Line.{axle_spacing, sought}
+use Rattle.model.specs.Answers.{for_sense}
+use Rattle.model.specs.declared.BySense.{BySense}
 use Rattle.model.specs.declared.Sense.{Sense}
 use Rattle.model.specs.declared.Sense.TheVariants.{Raising, Lowering}
 use Rattle.pair.specs.LineFits.{LineFits}
-use Rattle.pair.specs.PairPlaces.{placed, rank_for, rank_most, RanksRight}
-use Rattle.pair.specs.declared.Ranks.{Ranks}
+use Rattle.pair.specs.PairPlaces.{placed, rank_most, RanksRight}
 use Rattle.pair.proofs.Places.{placed_near}
-use Rattle.line.specs.Sought.{double_area, area_for, Found}
-use Rattle.line.specs.declared.pieces.Areas.{Areas}
+use Rattle.line.specs.Sought.{double_area, Found}
 use Rattle.line.proofs.Leading.{best_near}
-use Rattle.line.proofs.effect.seek.Goals as goal
+use Rattle.line.proofs.sought.seek.Goals as goal
 
 -- the best ranks of a line that fits
-module _ (s : List ℕ) (h n : ℕ) (line_fits : LineFits s n) (ranks : Ranks) (right : RanksRight (placed (influence_line s h n)) (2 * (n + axle_spacing (influence_line s h n)) + 1) ranks) where
+module _ (s : List ℕ) (h n : ℕ) (line_fits : LineFits s n) (ranks : ByQuestion ℤ) (right : RanksRight (placed (influence_line s h n)) (2 * (n + axle_spacing (influence_line s h n)) + 1) ranks) where
   abbrev line : InfluenceLine
   line = influence_line s h n
 
@@ -34,19 +36,19 @@ module _ (s : List ℕ) (h n : ℕ) (line_fits : LineFits s n) (ranks : Ranks) (
 
   -- a sense's rank, as it is passed
   abbrev rank : Sense → ℤ
-  rank sense = to_z w32 (of_z w32 (rank_for (sought sense) ranks))
+  rank sense = to_z w32 (of_z w32 (for_question (sought sense) ranks))
 
   few : line.pieces + axle_spacing line ≤ 1050
   few = omega (arith, line_fits.few, div-le_self 50 h)
 
-  bounded : (sense : Sense) → SFits w32 (rank_for (sought sense) ranks) → Within rank_most (rank sense)
+  bounded : (sense : Sense) → SFits w32 (for_question (sought sense) ranks) → Within rank_most (rank sense)
   bounded sense f = subst (Within rank_most) (sym ((any f).is ∙ right (sought sense))) (best_near (sought sense) (placed line) (2 * (line.pieces + axle_spacing line) + 1) (omega (arith, few)) near)
 
-  found : (sense : Sense) {a : ℤ} → SFits w32 (rank_for (sought sense) ranks) → a ≡ double_area line sense → Found line sense a (rank sense)
+  found : (sense : Sense) {a : ℤ} → SFits w32 (for_question (sought sense) ranks) → a ≡ double_area line sense → Found line sense a (rank sense)
   found sense f e = record { area = e; rank = (any f).is ∙ right (sought sense); few = few; near = near }
 
 -- a sense's area, as it is passed
-area : (given : InfluenceLine) (areas : Areas) (sense : Sense) → (area_for sense areas ≡ double_area given sense) × Within 10000000 (area_for sense areas) → Held w64 (of_z w64 (area_for sense areas)) 10000000 (double_area given sense)
+area : (given : InfluenceLine) (areas : BySense ℤ) (sense : Sense) → (for_sense sense areas ≡ double_area given sense) × Within 10000000 (for_sense sense areas) → Held w64 (of_z w64 (for_sense sense areas)) 10000000 (double_area given sense)
 area given areas sense e = retold (known w64 e.1 (lit< tt)) e.0
 
 pub sought_at-requires : goal.sought_at-requires

@@ -17,7 +17,7 @@ use Rattle.pair.specs.PairPlaces.{placed, rank_of, stand_of}
 use Rattle.pair.specs.declared.Stand.{Stand}
 use Rattle.line.specs.Sought.{Found}
 use Rattle.line.proofs.Leading.{better_side, PairStands, Leads, leads, stands_position}
-use Rattle.line.proofs.effect.sought_at.Goals as goal
+use Rattle.line.proofs.sought.sought_at.Goals as goal
 
 -- a line on which area and rank were found: the stand of the rank, by what is told of it, has the sense's best pair
 module _ (line : InfluenceLine) (sense : Sense) (area rank : ℤ) (found : Found line sense area rank) where
