@@ -164,32 +164,32 @@ module _ {near far : List ℕ} {d : Decks} (fit : DecksFit near far d) where
 
   -- each lane's span, the lanes and the sums' denominator are those of every job with these carriageways
   module _ (spans : List Span) (each : (job : Job) → DecksOf near far d.width d.second d.g job → (i : ℕ) → i < lanes job → SpanRight (deck_of job i) (number_on job i) (get_or spans i no_span)) where
-    module _ {x : ℕ} (x_is : x ≡ d.lanes * max 1 d.beyond * d.g) where
-      pub across_fits : AcrossFits spans d.lanes d.beyond (d.lanes + d.beyond) x
+    module _ {k : ℕ} (k_is : k ≡ max 1 d.beyond) where
+      pub across_fits : AcrossFits spans d.lanes d.beyond (d.lanes + d.beyond) (d.lanes * k * d.g)
       across_fits =
           let few = decks_few in
           let of : DecksOf near far d.width d.second d.g deck_job = record { deck = refl; second = refl } in
-          let some : max 1 d.beyond ≤ 5 = omega arith in
-          let most : d.lanes * max 1 d.beyond ≤ 5 * 5 = mul-le-mul few.1 some in
-          let least : 1 ≤ d.lanes * max 1 d.beyond = mul-pos few.0 (omega arith) in
+          let some : k ≤ 5 = omega arith in
+          let most : d.lanes * k ≤ 5 * 5 = mul-le-mul few.1 some in
+          let least : 1 ≤ d.lanes * k = mul-pos few.0 (omega arith) in
           record {
             some = few.0;
             few = few.1;
             second_few = few.2;
             lanes = refl;
-            apart = rw x_is (mul-le-mul {n₁ = 1} {n₂ = d.lanes * max 1 d.beyond} least fit.first.apart);
-            close = rw x_is (mul-le-mul {n₁ = d.lanes * max 1 d.beyond} {n₂ = 25} most fit.first.close);
+            apart = mul-le-mul {n₁ = 1} {n₂ = d.lanes * k} least fit.first.apart;
+            close = mul-le-mul {n₁ = d.lanes * k} {n₂ = 25} most fit.first.close;
             spans = λ i h. span_fits_lem (each deck_job of i (omega (arith, all_lanes of)));
           }
 
-      pub spanned : (fits : AcrossFits spans d.lanes d.beyond (d.lanes + d.beyond) x) (job : Job) → DecksOf near far d.width d.second d.g job →
-          Spanned job (record { spans = spans; first = d.lanes; second = d.beyond; lanes = d.lanes + d.beyond; denominator = x; fits = fits })
+      pub spanned : (fits : AcrossFits spans d.lanes d.beyond (d.lanes + d.beyond) (d.lanes * k * d.g)) (job : Job) → DecksOf near far d.width d.second d.g job →
+          Spanned job (record { spans = spans; first = d.lanes; second = d.beyond; lanes = d.lanes + d.beyond; denominator = d.lanes * k * d.g; fits = fits })
       unfolding unit
       spanned fits job of = record {
         first = first_lanes of;
         second = second_lanes_is of;
         lanes = all_lanes of;
-        denominator = x_is ∙ ap₂ ◌*◌ (ap₂ (λ (n m : ℕ). n * max 1 m) (first_lanes of) (second_lanes_is of)) (ap (λ (c : Carriageway). c.g) (sym of.deck));
+        denominator = ap₂ ◌*◌ (ap₂ ◌*◌ (first_lanes of) (k_is ∙ ap (max 1) (second_lanes_is of))) (ap (λ (c : Carriageway). c.g) (sym of.deck));
         spaced = let some : 0 < d.g = omega (arith, fit.first.apart) in (subst (λ (c : Carriageway). 0 < c.g) (sym of.deck) some, subst (λ (c : Carriageway). 0 < c.g) (sym of.second) some);
         each = λ i h. each job of i (omega (arith, all_lanes of));
       }

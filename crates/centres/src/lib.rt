@@ -157,14 +157,6 @@ fn spans(near: &[u8], far: &[u8], d: Decks) -> [Span; 10]
     all
 }
 
-// n of the second carriageway as a factor of the unit: 1 where there is none.
-fn at_least_one(n: usize) -> usize
-    requires { n ≤ 5 }
-    ensures { (result ≡ max 1 n) × (result ≤ 5) }
-{
-    if n == 0 { 1 } else { n }
-}
-
 // What lies across, by the transverse sections of both carriageways, their widths (0 for a second one that is not there) and the spacing g.
 pub fn across_of(near: &[u8], far: &[u8], width: usize, second: usize, g: usize) -> Across
     requires { TransverseFits near.now width g × ((0 < second) → TransverseFits far.now second g) }
@@ -185,6 +177,6 @@ pub fn across_of(near: &[u8], far: &[u8], width: usize, second: usize, g: usize)
         first: n,
         second: m,
         lanes: n + m,
-        denominator: n * at_least_one(m) * g,
+        denominator: n * m.max(1) * g,
     }
 }
