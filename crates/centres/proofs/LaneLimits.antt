@@ -25,12 +25,11 @@ use Rattle.model.specs.Format.{spaces}
 use Rattle.model.proofs.Lanes.{lane_count_lem, lane_room}
 use Rattle.model.proofs.Centre.{ordinate_bound}
 use Rattle.centres.specs.Transverse.{TransverseFits, OrdinatesTo}
-use Rattle.centres.specs.Spans.{CentreRight, SpanRight, no_span, SpanFits, AcrossFits, DecksFit, DecksOf, Spanned}
+use Rattle.centres.specs.Spans.{CentreRight, SpanRight, no_span, SpanFits, AcrossFits, DecksFit, DecksOf, Span}
+use Rattle.centres.specs.Spanned.{Spanned}
 use Rattle.centres.specs.Candidates.{ordinate_at, BestBefore}
-use Rattle.centres.specs.declared.Across.{Across}
 use Rattle.centres.specs.declared.Centre.{Centre}
 use Rattle.centres.specs.declared.Decks.{Decks}
-use Rattle.centres.specs.declared.Span.{Span}
 use Rattle.exact.proofs.Rounding.{div_mono}
 
 -- what a lane's limits ask of the machine, and of the section
@@ -44,8 +43,8 @@ pub record Limits (s : List ℕ) (w n g i : ℕ) : Type 0 where
   pub order : i * w + 150 * n ≤ (i + 1) * w - 150 * n
   pub ordinates : OrdinatesTo s (((i + 1) * w - 150 * n) / (n * g) + 1)
 
-pub limits : (s : List ℕ) (w n g i : ℕ) → TransverseFits s w g → n ≡ lane_count w → i < n → Limits s w n g i
-limits s w n g i fits e below =
+pub limits : {s : List ℕ} {w n g i : ℕ} → TransverseFits s w g → n ≡ lane_count w → i < n → Limits s w n g i
+limits {s} {w} {n} {g} {i} fits e below =
     let few : n ≤ 5 = rw e (lane_count_lem w).1 in
     let roomy : 300 * n ≤ w = rw e (lane_room w fits.wide) in
     let last : (i + 1) * w ≤ 10395 = mul-le-mul {n₁ = i + 1} {n₂ = 5} (omega arith) fits.narrow in
@@ -92,9 +91,9 @@ best_of_lane q s w g i c g-pos order b =
     }
 
 -- as the code counts
-pub centre_right : (q : Question) (s : List ℕ) (w n g i : ℕ) (c : Centre) → n ≡ lane_count w → 0 < g →
+pub centre_right : (q : Question) {s : List ℕ} {w n g i : ℕ} {c : Centre} → n ≡ lane_count w → 0 < g →
     (let lo = i * w + 150 * n in let hi = (i + 1) * w - 150 * n in lo ≤ hi → BestBefore q s (n * g) lo hi (hi / (n * g) + 1) c → CentreRight q (carriageway s w g) i c)
-centre_right q s w n g i c e g-pos order b =
+centre_right q {s} {w} {n} {g} {i} {c} e g-pos order b =
     let P : ℕ → ℕ → Type 0 = λ n j. let lo = i * w + 150 * n in let hi = j * w - 150 * n in (lo ≤ hi) × BestBefore q s (n * g) lo hi (hi / (n * g) + 1) c in
     let p : P (lane_count w) (suc i) = subst (P (lane_count w)) (add-one i) (subst (λ (n : ℕ). P n (i + 1)) e (order, b)) in
     best_of_lane q s w g i c g-pos p.0 p.1
@@ -106,11 +105,11 @@ unfolding best_ordinate
 span_order deck i s right =
     let m = highest deck i - lowest deck i in
     let t : ℕ → ℤ = λ j. transverse_at deck (lanes_of deck) (lowest deck i + j) in
-    subst (λ (x : ℤ). x ≤ℤ s.greatest.ordinate) (sym right.least.best)
-    (subst (λ (x : ℤ). extreme Least m t ≤ℤ x) (sym right.greatest.best) (le_trans (extreme_bounds Least m t 0 (omega arith)) (extreme_bounds Greatest m t 0 (omega arith))))
+    subst (λ (x : ℤ). x ≤ℤ s.greatest.ordinate) (sym (right.each Least).best)
+    (subst (λ (x : ℤ). extreme Least m t ≤ℤ x) (sym (right.each Greatest).best) (le_trans (extreme_bounds Least m t 0 (omega arith)) (extreme_bounds Greatest m t 0 (omega arith))))
 
 pub span_fits_lem : {deck : Carriageway} {i : ℕ} {s : Span} → SpanRight deck i s → SpanFits s
-span_fits_lem {deck} {i} {s} right = record { greatest = right.greatest.near; least = right.least.near; order = span_order deck i s right }
+span_fits_lem {deck} {i} {s} right = record { near = λ q. (right.each q).near; order = span_order deck i s right }
 
 -- ---- the carriageways of a job
 module _ {near far : List ℕ} {d : Decks} (fit : DecksFit near far d) where
@@ -165,33 +164,32 @@ module _ {near far : List ℕ} {d : Decks} (fit : DecksFit near far d) where
 
   -- each lane's span, the lanes and the sums' denominator are those of every job with these carriageways
   module _ (spans : List Span) (each : (job : Job) → DecksOf near far d.width d.second d.g job → (i : ℕ) → i < lanes job → SpanRight (deck_of job i) (number_on job i) (get_or spans i no_span)) where
-    abbrev across : Across
-    across = record { spans = spans; first = d.lanes; second = d.beyond; lanes = d.lanes + d.beyond; denominator = d.lanes * max 1 d.beyond * d.g }
+    module _ {k : ℕ} (k_is : k ≡ max 1 d.beyond) where
+      pub across_fits : AcrossFits spans d.lanes d.beyond (d.lanes + d.beyond) (d.lanes * k * d.g)
+      across_fits =
+          let few = decks_few in
+          let of : DecksOf near far d.width d.second d.g deck_job = record { deck = refl; second = refl } in
+          let some : k ≤ 5 = omega arith in
+          let most : d.lanes * k ≤ 5 * 5 = mul-le-mul few.1 some in
+          let least : 1 ≤ d.lanes * k = mul-pos few.0 (omega arith) in
+          record {
+            some = few.0;
+            few = few.1;
+            second_few = few.2;
+            lanes = refl;
+            apart = mul-le-mul {n₁ = 1} {n₂ = d.lanes * k} least fit.first.apart;
+            close = mul-le-mul {n₁ = d.lanes * k} {n₂ = 25} most fit.first.close;
+            spans = λ i h. span_fits_lem (each deck_job of i (omega (arith, all_lanes of)));
+          }
 
-    pub across_fits : AcrossFits across
-    across_fits =
-        let few = decks_few in
-        let of : DecksOf near far d.width d.second d.g deck_job = record { deck = refl; second = refl } in
-        let some : max 1 d.beyond ≤ 5 = omega arith in
-        let most : d.lanes * max 1 d.beyond ≤ 5 * 5 = mul-le-mul few.1 some in
-        let least : 1 ≤ d.lanes * max 1 d.beyond = mul-pos few.0 (omega arith) in
-        record {
-          some = few.0;
-          few = few.1;
-          second_few = few.2;
-          both = refl;
-          apart = mul-le-mul {n₁ = 1} {n₂ = d.lanes * max 1 d.beyond} least fit.first.apart;
-          close = mul-le-mul {n₁ = d.lanes * max 1 d.beyond} {n₂ = 25} most fit.first.close;
-          spans = λ i h. span_fits_lem (each deck_job of i (omega (arith, all_lanes of)));
-        }
-
-    pub spanned : (job : Job) → DecksOf near far d.width d.second d.g job → Spanned job across
-    unfolding unit
-    spanned job of = record {
-      first = first_lanes of;
-      second = second_lanes_is of;
-      lanes = all_lanes of;
-      denominator = ap₂ ◌*◌ (ap₂ (λ (n m : ℕ). n * max 1 m) (first_lanes of) (second_lanes_is of)) (ap (λ (c : Carriageway). c.g) (sym of.deck));
-      spaced = let some : 0 < d.g = omega (arith, fit.first.apart) in (subst (λ (c : Carriageway). 0 < c.g) (sym of.deck) some, subst (λ (c : Carriageway). 0 < c.g) (sym of.second) some);
-      each = λ i h. each job of i (omega (arith, all_lanes of));
-    }
+      pub spanned : (fits : AcrossFits spans d.lanes d.beyond (d.lanes + d.beyond) (d.lanes * k * d.g)) (job : Job) → DecksOf near far d.width d.second d.g job →
+          Spanned job (record { spans = spans; first = d.lanes; second = d.beyond; lanes = d.lanes + d.beyond; denominator = d.lanes * k * d.g; fits = fits })
+      unfolding unit
+      spanned fits job of = record {
+        first = first_lanes of;
+        second = second_lanes_is of;
+        lanes = all_lanes of;
+        denominator = ap₂ ◌*◌ (ap₂ ◌*◌ (first_lanes of) (k_is ∙ ap (max 1) (second_lanes_is of))) (ap (λ (c : Carriageway). c.g) (sym of.deck));
+        spaced = let some : 0 < d.g = omega (arith, fit.first.apart) in (subst (λ (c : Carriageway). 0 < c.g) (sym of.deck) some, subst (λ (c : Carriageway). 0 < c.g) (sym of.second) some);
+        each = λ i h. each job of i (omega (arith, all_lanes of));
+      }

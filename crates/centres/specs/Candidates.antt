@@ -1,7 +1,7 @@
 -- The centres that a lane's best is chosen from: its limits and the transverse ordinates between.
-use Rattle.std.specs.Prelude.{ℕ, suc, ◌*◌, ◌/◌, ◌%◌, ◌≤◌, ◌<◌, ◌≡◌, List, ℤ, pos, ◌+ℤ◌, ◌-ℤ◌, ◌*ℤ◌, if◌then◌else◌}
+use Rattle.std.specs.Prelude.{ℕ, suc, ◌*◌, ◌/◌, ◌%◌, ◌≤◌, ◌<◌, ◌≡◌, List, ℤ, pos, ◌+ℤ◌, ◌-ℤ◌, ◌*ℤ◌}
 use Rattle.exact.specs.Bounds.{Within}
-use Rattle.exact.specs.Questions.{beats, NoBetter}
+use Rattle.exact.specs.Questions.{NoBetter}
 use Rattle.exact.specs.declared.Question.{Question}
 use Rattle.words.specs.Words.{word_at}
 use Rattle.magnitudes.specs.Magnitudes.{transverse_most}
@@ -11,9 +11,9 @@ use Rattle.centres.specs.declared.Centre.{Centre}
 unfoldable pub ordinate_at : List ℕ → (d centre : ℕ) → ℤ
 ordinate_at s d centre = (pos d -ℤ pos (centre % d)) *ℤ word_at s (centre / d) +ℤ pos (centre % d) *ℤ word_at s (suc (centre / d))
 
--- the centre with its ordinate if that beats the best so far
-abbrev pub better_centre : Question → List ℕ → (d : ℕ) → (best : Centre) → (at : ℕ) → Centre
-better_centre q s d best at = if beats q (ordinate_at s d at) best.ordinate then record { ordinate = ordinate_at s d at; at = at } else best
+-- a centre with the ordinate there
+abbrev pub centre_at : List ℕ → (d at : ℕ) → Centre
+centre_at s d at = record { ordinate = ordinate_at s d at; at = at }
 
 -- a centre from lo to hi with the ordinate there
 pub record CentreStands (s : List ℕ) (d lo hi : ℕ) (c : Centre) : Type 0 where

@@ -1,3 +1,4 @@
 pub mod Transverse
 pub mod Spans
+pub mod Spanned
 pub mod Candidates

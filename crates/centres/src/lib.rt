@@ -8,10 +8,14 @@ ghost use Rattle.model.specs.Lanes.{lane_count, lanes, deck_of, number_on};
 ghost use Rattle.model.specs.Decode.{carriageway};
 ghost use Rattle.magnitudes.specs.Magnitudes.{transverse_most};
 ghost use Rattle.centres.specs.Transverse.{TransverseFits, OrdinatesTo};
-ghost use Rattle.centres.specs.Spans.{SpanRight, no_span, WidthFits, DecksFit, DecksOf, AcrossFits, Spanned};
-ghost use Rattle.centres.specs.Candidates.{ordinate_at, better_centre, BestBefore};
+ghost use Rattle.centres.specs.Spans.{SpanRight, no_span, WidthFits, DecksFit, DecksOf};
+ghost use Rattle.centres.specs.Spanned.{Spanned};
+ghost use Rattle.centres.specs.Candidates.{ordinate_at, centre_at, BestBefore};
 
-use exact::Question;
+mod across;
+
+pub use across::Across;
+use exact::{ByQuestion, Question, Valued};
 
 // n for a carriageway so many cm wide.
 #[tactic(auto, unfolding(model::specs::Lanes::lane_count))]
@@ -19,19 +23,13 @@ fn lane_count(width: usize) -> usize
     requires { (300 ≤ width) × (width ≤ 2079) }
     ensures { (result ≡ lane_count width) × ((1 ≤ result) × (result ≤ 5)) }
 {
-    if width < 600 {
-        return 1;
+    match width {
+        0..=599 => 1,
+        600..=969 => 2,
+        970..=1339 => 3,
+        1340..=1709 => 4,
+        _ => 5,
     }
-    if width < 970 {
-        return 2;
-    }
-    if width < 1340 {
-        return 3;
-    }
-    if width < 1710 {
-        return 4;
-    }
-    5
 }
 
 // n for a carriageway so many cm wide, or for none, of 0 cm.
@@ -39,10 +37,7 @@ fn lanes_on(width: usize) -> usize
     requires { WidthFits width }
     ensures { (result ≡ (if eqb width 0 then 0 else lane_count width)) × (result ≤ 5) }
 {
-    if width == 0 {
-        return 0;
-    }
-    lane_count(width)
+    if width == 0 { 0 } else { lane_count(width) }
 }
 
 // A centre in n-ths of a cm and the transverse ordinate there, in thousandths times n g; narrow, since all lanes' are handed on together.
@@ -51,6 +46,17 @@ pub struct Centre {
     pub ordinate: i32,
     pub at: u32,
 }
+
+impl Valued for Centre {
+    ghost value_of = { λ c. c.ordinate };
+
+    fn value(&self) -> i64 {
+        self.ordinate as i64
+    }
+}
+
+// A lane's greatest and least ordinate.
+pub type Span = ByQuestion<Centre>;
 
 // The transverse ordinate at a centre, d being n g.
 fn ordinate(across: &[u8], d: usize, centre: usize) -> i32
@@ -65,22 +71,19 @@ fn ordinate(across: &[u8], d: usize, centre: usize) -> i32
         + (j as i32) * (words::ordinate(across, m + 1) as i32)
 }
 
-// The centre at a place if its ordinate beats the best so far, else that.
-fn consider(q: Question, across: &[u8], d: usize, best: Centre, at: usize) -> Centre
+// The centre at a place, with its ordinate.
+fn centre_at(across: &[u8], d: usize, at: usize) -> Centre
     requires d_nonzero { 0 < d }
     requires d_bound { d ≤ 250 }
     requires ordinates_to { OrdinatesTo across.now (at / d + 1) }
     requires at_bound { at < 2 ^ 32 }
-    ensures { result ≡ better_centre q across.now d best at }
+    ensures here { result ≡ centre_at across.now d at }
+    ensures near { Within transverse_most result.ordinate }
 {
-    let here = ordinate(across, d, at);
-    if exact::beats(q, here as i64, best.ordinate as i64) {
-        return Centre {
-            ordinate: here,
-            at: at as u32,
-        };
+    Centre {
+        ordinate: ordinate(across, d, at),
+        at: at as u32,
     }
-    best
 }
 
 // The best centre from lo to hi: at one of them or at a transverse ordinate between.
@@ -92,22 +95,11 @@ fn best(q: Question, across: &[u8], d: usize, lo: usize, hi: usize) -> Centre
     requires hi_bound { hi < 2 ^ 32 }
     ensures { BestBefore q across.now d lo hi (hi / d + 1) result }
 {
-    let first = Centre {
-        ordinate: ordinate(across, d, lo),
-        at: lo as u32,
-    };
-    let mut best = consider(q, across, d, first, hi);
+    let mut best = exact::better(q, centre_at(across, d, lo), centre_at(across, d, hi));
     for m in lo / d + 1..hi / d + 1 {
-        best = consider(q, across, d, best, m * d);
+        best = exact::better(q, best, centre_at(across, d, m * d));
     }
     best
-}
-
-// A lane's greatest and least ordinate.
-#[derive(Clone, Copy)]
-pub struct Span {
-    pub greatest: Centre,
-    pub least: Centre,
 }
 
 // The greatest and least ordinate of lane i of n.
@@ -119,9 +111,10 @@ fn lane_span(across: &[u8], width: usize, n: usize, g: usize, i: usize) -> Span
 {
     let lo = i * width + 150 * n;
     let hi = (i + 1) * width - 150 * n;
-    let greatest = best(Question::Greatest, across, n * g, lo, hi);
-    let least = best(Question::Least, across, n * g, lo, hi);
-    Span { greatest, least }
+    Span {
+        greatest: best(Question::Greatest, across, n * g, lo, hi),
+        least: best(Question::Least, across, n * g, lo, hi),
+    }
 }
 
 // The carriageways: the first one's width in cm and lanes; those of the second one, both 0 where it is not there; and the spacing g of their transverse ordinates.
@@ -159,37 +152,15 @@ fn spans(near: &[u8], far: &[u8], d: Decks) -> [Span; 10]
     };
     let mut all = [empty; 10];
     for i in 0..d.lanes + d.beyond {
-        let s = span_of(near, far, d, i);
-        all[i] = s;
+        all[i] = span_of(near, far, d, i);
     }
     all
-}
-
-// n of the second carriageway as a factor of the unit: 1 where there is none.
-fn at_least_one(n: usize) -> usize
-    requires { n ≤ 5 }
-    ensures { (result ≡ max 1 n) × (result ≤ 5) }
-{
-    if n == 0 {
-        return 1;
-    }
-    n
-}
-
-// What lies across the line: each lane's span, the lanes of each carriageway and of both, and the sums' denominator, n of both carriageways times g.
-#[derive(Clone, Copy)]
-pub struct Across {
-    pub spans: [Span; 10],
-    pub first: usize,
-    pub second: usize,
-    pub lanes: usize,
-    pub denominator: usize,
 }
 
 // What lies across, by the transverse sections of both carriageways, their widths (0 for a second one that is not there) and the spacing g.
 pub fn across_of(near: &[u8], far: &[u8], width: usize, second: usize, g: usize) -> Across
     requires { TransverseFits near.now width g × ((0 < second) → TransverseFits far.now second g) }
-    ensures { AcrossFits result × ((job : Job) → DecksOf near.now far.now width second g job → Spanned job result) }
+    ensures { (job : Job) → DecksOf near.now far.now width second g job → Spanned job result }
 {
     let n = lane_count(width);
     let m = lanes_on(second);
@@ -206,6 +177,6 @@ pub fn across_of(near: &[u8], far: &[u8], width: usize, second: usize, g: usize)
         first: n,
         second: m,
         lanes: n + m,
-        denominator: n * at_least_one(m) * g,
+        denominator: n * m.max(1) * g,
     }
 }

@@ -8,7 +8,7 @@ use Rattle.model.specs.Job.{Profile, Live}
 use Rattle.model.specs.Lanes.{bit, reduction, additional}
 use Rattle.model.specs.Traffic.{overload_sum, sum_on, best_on}
 use Rattle.model.specs.Arrangements.{KindsFit, FactorsFit}
-use Rattle.magnitudes.specs.Magnitudes.{hn_lane_most, factored_most, sum_most}
+use Rattle.magnitudes.specs.Magnitudes.{hn_lane_most, among, factored_most, sum_most}
 use Rattle.sets.specs.declared.Group.{Group}
 use Rattle.sets.specs.declared.Loading.{Loading}
 
@@ -39,6 +39,13 @@ rank q n v i = count_to n (λ k. precedes q v k i)
 pub record Ranked (q : Question) (n : ℕ) (v : ℕ → ℤ) (ranks : List ℕ) : Type 0 where
   pub each : (i : ℕ) → i < n → number_at ranks i ≡ rank q n v i
   pub past : (i : ℕ) → n ≤ i → number_at ranks i ≡ 0
+
+-- one to ten lanes' values, none worse than 0 and each near enough, and their ranks
+pub record RankingFits (q : Question) (n : ℕ) (hn : List ℤ) (ranks : List ℕ) : Type 0 where
+  pub some : 0 < n
+  pub few : n ≤ 10
+  pub values : ValuesFit q (among n hn_lane_most) n (value_at hn)
+  pub ranked : Ranked q n (value_at hn) ranks
 
 -- ---- normal
 

@@ -3,15 +3,16 @@
 
 ghost use Rattle.std.specs.Prelude.{◌≡◌, ℕ, ◌+◌, ◌-◌, ◌*◌, ◌≤◌, ◌<◌, ◌^◌, ltb, ℤ, pos, ◌+ℤ◌, if◌then◌else◌};
 ghost use Rattle.std.specs.Int.Count.{ones};
+ghost use Rattle.std.proofs.Props.{props};
 ghost use Rattle.exact.specs.Bounds.{Within};
-ghost use Rattle.exact.specs.Questions.{beats as beatsFor, NoBetter};
+ghost use Rattle.exact.specs.Questions.{NoBetter, no_better_prop};
 ghost use Rattle.exact.specs.declared.Question.{Question};
 ghost use Rattle.model.specs.Job.{highway, rural, normal, overload};
 ghost use Rattle.model.specs.Lanes.{bit, twentieths as twentiethsOf, reduction as reductionOf, additional as additionalOf};
 ghost use Rattle.magnitudes.specs.Magnitudes.{hn_lane_most, ho_lane_most, among, factored_most};
-ghost use Rattle.sets.specs.Sets.{value_at, number_at, ValuesFit, precedes as precedesOf, rank as rank_of, Ranked, FirstLanes, FirstAt, factor_by_rank, OthersRight, OverloadAt, LoadingRight};
+ghost use Rattle.sets.specs.Sets.{value_at, number_at, ValuesFit, RankingFits, precedes as precedesOf, rank as rank_of, Ranked, FirstLanes, FirstAt, factor_by_rank, OthersRight, OverloadAt, LoadingRight};
 
-use exact::Question;
+use exact::{Question, Valued};
 
 // Lane i's bit.
 pub fn has(set: u32, i: usize) -> bool
@@ -34,52 +35,39 @@ pub fn loaded(set: u32, lane: usize) -> u32
     requires { set < 1024 }
     ensures { result ≡ (if ltb lane 10 then set + 2 ^ lane else set) }
 {
-    if lane < 10 {
-        return with(lane, set);
-    }
-    set
+    if lane < 10 { with(lane, set) } else { set }
 }
 
 // ---- ranks
 
 // Whether lane k precedes lane i: it is better for the question, or as good and further left.
-fn precedes(q: Question, values: [i64; 10], k: usize, i: usize) -> bool
-    requires { (k < 10) × (i < 10) × Within hn_lane_most (value_at values k) × Within hn_lane_most (value_at values i) }
-    ensures { result ≡ precedesOf q (value_at values) k i }
+fn precedes(q: Question, values: &[i64; 10], k: usize, i: usize) -> bool
+    requires { (k < 10) × (i < 10) }
+    ensures { result ≡ precedesOf q (value_at values.now) k i }
 {
     if k < i {
-        return !exact::beats(q, values[i], values[k]);
+        !exact::beats(q, values[i], values[k])
+    } else {
+        exact::beats(q, values[k], values[i])
     }
-    exact::beats(q, values[k], values[i])
-}
-
-// 1 where lane k precedes lane i, else 0.
-fn ahead(q: Question, values: [i64; 10], k: usize, i: usize) -> u32
-    requires { (k < 10) × (i < 10) × Within hn_lane_most (value_at values k) × Within hn_lane_most (value_at values i) }
-    ensures { (result ≡ (if precedesOf q (value_at values) k i then 1 else 0)) × (result ≤ 1) }
-{
-    if precedes(q, values, k, i) {
-        return 1;
-    }
-    0
 }
 
 // Lane i's rank among n lanes.
-fn rank(q: Question, values: [i64; 10], n: usize, i: usize) -> u32
-    requires { (n ≤ 10) × (i < n) × ((k : ℕ) → k < n → Within hn_lane_most (value_at values k)) }
-    ensures { result ≡ rank_of q n (value_at values) i }
+fn rank(q: Question, values: &[i64; 10], n: usize, i: usize) -> u32
+    requires { (n ≤ 10) × (i < n) }
+    ensures { result ≡ rank_of q n (value_at values.now) i }
 {
     let mut r: u32 = 0;
     for k in 0..n {
-        r += ahead(q, values, k, i);
+        r += u32::from(precedes(q, values, k, i));
     }
     r
 }
 
 // The rank of each of n lanes.
-pub fn ranks(q: Question, values: [i64; 10], n: usize) -> [u32; 10]
-    requires { (n ≤ 10) × ((k : ℕ) → k < n → Within hn_lane_most (value_at values k)) }
-    ensures { Ranked q n (value_at values) result }
+fn ranks(q: Question, values: &[i64; 10], n: usize) -> [u32; 10]
+    requires { n ≤ 10 }
+    ensures { Ranked q n (value_at values.now) result }
 {
     let mut all = [0u32; 10];
     for i in 0..n {
@@ -91,13 +79,12 @@ pub fn ranks(q: Question, values: [i64; 10], n: usize) -> [u32; 10]
 // ---- factors
 
 // The factors of 3.2.4 in twentieths, by a number of lanes.
+#[tactic(auto, unfolding(model::specs::Lanes::twentieths))]
 fn twentieths(m: u32) -> u16
     ensures { (result ≡ twentiethsOf m) × (result ≤ 20) }
 {
-    if m < 2 {
-        return 20;
-    }
     match m {
+        0 | 1 => 20,
         2 => 18,
         3 => 16,
         4 => 14,
@@ -115,18 +102,21 @@ struct Group {
     sum: i64,
 }
 
-// A group with lane i, which gives this, where it is loaded.
-fn joined(group: Group, loaded: bool, i: usize, value: i64) -> Group
-    requires { (i < 10) × (group.set < 1024) × Within (9 * factored_most) group.sum × Within factored_most value }
-    ensures { result ≡ (if loaded then record { set = group.set + 2 ^ i; sum = group.sum +ℤ value } else group) }
-{
-    if loaded {
-        return Group {
-            set: with(i, group.set),
-            sum: group.sum + value,
-        };
+impl Group {
+    // With lane i, which gives this, where it is loaded.
+    fn joined(self, loaded: bool, i: usize, value: i64) -> Group
+        requires { (i < 10) × (self.set < 1024) × Within (9 * factored_most) self.sum × Within factored_most value }
+        ensures { result ≡ (if loaded then record { set = self.set + 2 ^ i; sum = self.sum +ℤ value } else self) }
+    {
+        if loaded {
+            Group {
+                set: with(i, self.set),
+                sum: self.sum + value,
+            }
+        } else {
+            self
+        }
     }
-    group
 }
 
 // A live kind's sum in 75 N·U times thousandths, twentieths and the sums' denominator; its HO lane, 10 where there is none; the set of its HN lanes; each lane's factor in twentieths, 0 where it is not additional.
@@ -138,17 +128,13 @@ pub struct Loading {
     pub factors: [u16; 10],
 }
 
-// The better of two loadings, the first at a tie.
-fn better(q: Question, a: Loading, b: Loading) -> Loading
-    ensures { result ≡ (if beatsFor q b.value a.value then b else a) }
-{
-    if exact::beats(q, b.value, a.value) {
-        return b;
-    }
-    a
-}
+impl Valued for Loading {
+    ghost value_of = { λ r. r.value };
 
-// ---- normal
+    fn value(&self) -> i64 {
+        self.value
+    }
+}
 
 // r of the set in twentieths: its ones choose.
 fn reduction(set: u32) -> i64
@@ -156,48 +142,6 @@ fn reduction(set: u32) -> i64
 {
     twentieths(u32::count_ones(set)) as i64
 }
-
-// The lanes whose rank is below m.
-fn first_lanes(ranks: [u32; 10], values: [i64; 10], n: usize, m: u32) -> Group
-    requires { (n ≤ 10) × ((i : ℕ) → i < n → Within hn_lane_most (value_at values i)) }
-    ensures { FirstLanes n (number_at ranks) (value_at values) m result }
-{
-    let mut group = Group { set: 0, sum: 0 };
-    for i in 0..n {
-        group = joined(group, ranks[i] < m, i, values[i]);
-    }
-    group
-}
-
-// The m first lanes under HN, at their r.
-fn normal_at(ranks: [u32; 10], hn: [i64; 10], n: usize, m: u32) -> Loading
-    requires { (n ≤ 10) × ((i : ℕ) → i < n → Within hn_lane_most (value_at hn i)) }
-    ensures { FirstAt n (number_at ranks) (value_at hn) m result }
-{
-    let group = first_lanes(ranks, hn, n, m);
-    let value = reduction(group.set) * group.sum;
-    let factors = [0u16; 10];
-    Loading {
-        value,
-        lane: 10,
-        set: group.set,
-        factors,
-    }
-}
-
-// The best set of n lanes of a highway.
-pub fn best_normal(q: Question, ranks: [u32; 10], hn: [i64; 10], n: usize) -> Loading
-    requires { (n ≤ 10) × Ranked q n (value_at hn) ranks × ValuesFit q (among n hn_lane_most) n (value_at hn) }
-    ensures { (ho : ℕ → ℤ) → LoadingRight q highway normal n (value_at hn) ho result }
-{
-    let mut best = normal_at(ranks, hn, n, 0);
-    for m in 1..n + 1 {
-        best = better(q, best, normal_at(ranks, hn, n, m as u32));
-    }
-    best
-}
-
-// ---- overload
 
 // The factor of additional lane m, counted from 0, in twentieths.
 fn additional(m: u32) -> u16
@@ -211,24 +155,7 @@ fn additional(m: u32) -> u16
 fn place(rank: u32, other: u32) -> u32
     ensures { (result ≡ (if ltb other rank then rank - 1 else rank)) × (result ≤ rank) }
 {
-    if other < rank {
-        return rank - 1;
-    }
-    rank
-}
-
-// Lane i's factor beside HO in lane o, in twentieths: a lane that gives nothing stays unloaded.
-fn factor(q: Question, ranks: [u32; 10], hn: [i64; 10], o: usize, i: usize) -> u16
-    requires { (o < 10) × (i < 10) × (number_at ranks i ≤ 10) × Within hn_lane_most (value_at hn i) }
-    ensures { (result ≡ factor_by_rank q (number_at ranks) (value_at hn) o i) × (result ≤ 20) }
-{
-    if i == o {
-        return 0;
-    }
-    if exact::beats(q, hn[i], 0) {
-        return additional(place(ranks[i], ranks[o]));
-    }
-    0
+    if other < rank { rank - 1 } else { rank }
 }
 
 // The additional lanes beside an HO lane, and each lane's factor.
@@ -238,54 +165,121 @@ struct Others {
     factors: [u16; 10],
 }
 
-// The lanes beside HO in lane o, each at its factor.
-fn beside(q: Question, ranks: [u32; 10], hn: [i64; 10], n: usize, o: usize) -> Others
-    requires { (n ≤ 10) × (o < 10) × ((i : ℕ) → i < n → number_at ranks i ≤ 10) × ((i : ℕ) → i < n → Within hn_lane_most (value_at hn i)) }
-    ensures { OthersRight n (factor_by_rank q (number_at ranks) (value_at hn) o) (value_at hn) result.group result.factors }
-{
-    let mut group = Group { set: 0, sum: 0 };
-    let mut factors = [0u16; 10];
-    for i in 0..n {
-        let f = factor(q, ranks, hn, o, i);
-        group = joined(group, f > 0, i, (f as i64) * hn[i]);
-        factors[i] = f;
-    }
-    Others { group, factors }
+// ---- the lanes by rank
+
+// A question's HN values of n lanes, and the lanes' ranks.
+pub struct Ranking {
+    pub q: Question,
+    pub n: usize,
+    pub hn: [i64; 10],
+    pub ranks: [u32; 10],
+    pub ghost fits: { RankingFits q n hn ranks } by { Prim.hlevel (props, no_better_prop) },
 }
 
-// HO of this value in lane o, at 20, and the lanes beside it.
-fn overload_at(q: Question, ranks: [u32; 10], hn: [i64; 10], n: usize, ho: i64, o: usize) -> Loading
-    requires { (n ≤ 10) × (o < 10) × ((i : ℕ) → i < n → number_at ranks i ≤ 10) × ((i : ℕ) → i < n → Within hn_lane_most (value_at hn i)) × Within ho_lane_most ho }
-    ensures { OverloadAt n (factor_by_rank q (number_at ranks) (value_at hn) o) (value_at hn) ho o result }
-{
-    let others = beside(q, ranks, hn, n, o);
-    let group = others.group;
-    let factors = others.factors;
-    let value = 20 * ho + group.sum;
-    Loading {
-        value,
-        lane: o,
-        set: group.set,
-        factors,
+impl Ranking {
+    // The lanes of these values, ranked.
+    pub fn new(q: Question, hn: [i64; 10], n: usize) -> Ranking
+        requires { (0 < n) × (n ≤ 10) × ValuesFit q (among n hn_lane_most) n (value_at hn) }
+        ensures { (result.q ≡ q) × (result.n ≡ n) × (result.hn ≡ hn) }
+    {
+        Ranking {
+            q,
+            n,
+            hn,
+            ranks: ranks(q, &hn, n),
+        }
     }
-}
 
-// The best HO lane of a highway, additional lanes and assignment.
-pub fn best_overload(
-    q: Question,
-    ranks: [u32; 10],
-    hn: [i64; 10],
-    ho: [i64; 10],
-    n: usize,
-) -> Loading
-    requires { (0 < n) × (n ≤ 10) × Ranked q n (value_at hn) ranks × ValuesFit q (among n hn_lane_most) n (value_at hn) × ((i : ℕ) → i < n → Within (among n ho_lane_most) (value_at ho i)) }
-    ensures { LoadingRight q highway overload n (value_at hn) (value_at ho) result }
-{
-    let mut best = overload_at(q, ranks, hn, n, ho[0], 0);
-    for o in 1..n {
-        best = better(q, best, overload_at(q, ranks, hn, n, ho[o], o));
+    // The lanes whose rank is below m.
+    fn first_lanes(&self, m: u32) -> Group
+        ensures { FirstLanes self.now.n (number_at self.now.ranks) (value_at self.now.hn) m result }
+    {
+        let mut group = Group { set: 0, sum: 0 };
+        for i in 0..self.n {
+            group = group.joined(self.ranks[i] < m, i, self.hn[i]);
+        }
+        group
     }
-    best
+
+    // The m first lanes under HN, at their r.
+    fn normal_at(&self, m: u32) -> Loading
+        ensures { FirstAt self.now.n (number_at self.now.ranks) (value_at self.now.hn) m result }
+    {
+        let group = self.first_lanes(m);
+        Loading {
+            value: reduction(group.set) * group.sum,
+            lane: 10,
+            set: group.set,
+            factors: [0u16; 10],
+        }
+    }
+
+    // The best set of the lanes of a highway.
+    pub fn best_normal(&self) -> Loading
+        ensures { (ho : ℕ → ℤ) → LoadingRight self.now.q highway normal self.now.n (value_at self.now.hn) ho result }
+    {
+        let mut best = self.normal_at(0);
+        for m in 1..self.n + 1 {
+            best = exact::better(self.q, best, self.normal_at(m as u32));
+        }
+        best
+    }
+
+    // Lane i's factor beside HO in lane o, in twentieths: a lane that gives nothing stays unloaded.
+    fn factor(&self, o: usize, i: usize) -> u16
+        requires { (o < self.now.n) × (i < self.now.n) }
+        ensures { (result ≡ factor_by_rank self.now.q (number_at self.now.ranks) (value_at self.now.hn) o i) × (result ≤ 20) }
+    {
+        if i == o {
+            return 0;
+        }
+        if exact::beats(self.q, self.hn[i], 0) {
+            additional(place(self.ranks[i], self.ranks[o]))
+        } else {
+            0
+        }
+    }
+
+    // The lanes beside HO in lane o, each at its factor.
+    fn beside(&self, o: usize) -> Others
+        requires { o < self.now.n }
+        ensures { OthersRight self.now.n (factor_by_rank self.now.q (number_at self.now.ranks) (value_at self.now.hn) o) (value_at self.now.hn) result.group result.factors }
+    {
+        let mut group = Group { set: 0, sum: 0 };
+        let mut factors = [0u16; 10];
+        for i in 0..self.n {
+            let f = self.factor(o, i);
+            group = group.joined(f > 0, i, (f as i64) * self.hn[i]);
+            factors[i] = f;
+        }
+        Others { group, factors }
+    }
+
+    // HO of this value in lane o, at 20, and the lanes beside it.
+    fn overload_at(&self, ho: i64, o: usize) -> Loading
+        requires { (o < self.now.n) × Within ho_lane_most ho }
+        ensures { OverloadAt self.now.n (factor_by_rank self.now.q (number_at self.now.ranks) (value_at self.now.hn) o) (value_at self.now.hn) ho o result }
+    {
+        let Others { group, factors } = self.beside(o);
+        Loading {
+            value: 20 * ho + group.sum,
+            lane: o,
+            set: group.set,
+            factors,
+        }
+    }
+
+    // The best HO lane of a highway, by each lane's HO value, additional lanes and assignment.
+    pub fn best_overload(&self, ho: [i64; 10]) -> Loading
+        requires { (i : ℕ) → i < self.now.n → Within (among self.now.n ho_lane_most) (value_at ho i) }
+        ensures { LoadingRight self.now.q highway overload self.now.n (value_at self.now.hn) (value_at ho) result }
+    {
+        let mut best = self.overload_at(ho[0], 0);
+        for o in 1..self.n {
+            best = exact::better(self.q, best, self.overload_at(ho[o], o));
+        }
+        best
+    }
 }
 
 // ---- a rural bridge

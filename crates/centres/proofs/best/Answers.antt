@@ -1,10 +1,11 @@
 use mathlib.Core.Path.{◌≡◌, subst}
 use Prim.Native.Nat.{ℕ, ◌+◌, ◌*◌, ◌/◌}
 use native.Mathlib.Omega.{arith}
-use mir.Syntax.{w32}
-use Rattle.exact.proofs.Held.{got}
+use Rattle.exact.specs.Bounds.{Within}
+use Rattle.magnitudes.specs.Magnitudes.{transverse_most}
+use Rattle.centres.specs.declared.Centre.{Centre}
 use Rattle.centres.specs.Candidates.{BestBefore}
-use Rattle.centres.proofs.Ordinates.{ordinate_near, ordinates_left, ordinate_between}
+use Rattle.centres.proofs.Ordinates.{ordinates_left, ordinate_between}
 use Rattle.exact.proofs.Rounding.{div_mono}
 use Rattle.centres.proofs.Candidates.{limits_tried, next_tried}
 use Rattle.centres.proofs.best.Goals as goal
@@ -12,20 +13,19 @@ use Rattle.centres.proofs.best.Goals as goal
 pub loop-m-init : goal.loop-m-init
 loop-m-init c =
     let a = c.args in
-    let o = c.ordinate in
     let p = c.requires.d_nonzero in
-    let n = c.requires.d_bound in
     let l = c.requires.lo_le_hi in
-    let has = c.requires.ordinates_to in
+    let first = c.centre_at.ensures in
+    let last = c.centre_at-2.ensures in
     let h = div_mono p l in (
       omega arith,
       omega arith,
-      rw (c.consider-best.ensures, (got w32 o.type_inv o.ensures).is)
-          (limits_tried a.q a.across.now a.d a.lo a.hi p l (ordinate_near a.across.now a.d a.lo p n (ordinates_left a.across.now a.d a.lo a.hi p l has)) (ordinate_near a.across.now a.d a.hi p n has)),
+      rw (c.better-best.ensures, first.here, last.here)
+          (limits_tried a.q a.across.now a.d a.lo a.hi p l (subst (λ (x : Centre). Within transverse_most x.ordinate) first.here first.near) (subst (λ (x : Centre). Within transverse_most x.ordinate) last.here last.near)),
     )
 
-pub consider-best-requires-in-loop-m-clause-ordinates_to : goal.consider-best-requires-in-loop-m-clause-ordinates_to
-consider-best-requires-in-loop-m-clause-ordinates_to c =
+pub centre_at-requires-in-loop-m-clause-ordinates_to : goal.centre_at-requires-in-loop-m-clause-ordinates_to
+centre_at-requires-in-loop-m-clause-ordinates_to c =
     let a = c.args in
     let m = c.loop-m.m in
     let p = c.requires.d_nonzero in
@@ -36,13 +36,12 @@ pub loop-m-preserved : goal.loop-m-preserved
 loop-m-preserved c =
     let a = c.args in
     let l = c.loop-m in
-    let p = c.requires.d_nonzero in
-    let b = ordinate_between a.d a.lo a.hi l.m p l.invariant.0 c.loop-m-test.true in (
+    let next = c.centre_at-in-loop-m.ensures in
+    let b = ordinate_between a.d a.lo a.hi l.m c.requires.d_nonzero l.invariant.0 c.loop-m-test.true in (
       omega arith,
       omega arith,
-      rw c.consider-best-in-loop-m.ensures
-          (next_tried a.q a.across.now a.d a.lo a.hi l.m l.best b.0 b.1
-          (ordinate_near a.across.now a.d (l.m * a.d) p c.requires.d_bound (ordinates_left a.across.now a.d (l.m * a.d) a.hi p b.1 c.requires.ordinates_to)) l.invariant.2),
+      rw (c.better-best-in-loop-m.ensures, next.here)
+          (next_tried a.q a.across.now a.d a.lo a.hi l.m l.best b.0 b.1 (subst (λ (x : Centre). Within transverse_most x.ordinate) next.here next.near) l.invariant.2),
     )
 
 pub returns : goal.returns

@@ -1,11 +1,8 @@
 use mathlib.Core.Path.{◌≡◌}
-use Prim.Native.Nat.{◌-◌, ◌≤◌}
+use Prim.Native.Nat.{◌≤◌}
 use Rattle.exact.specs.Ranges.{count_to}
 use Rattle.sets.specs.Sets.{value_at, precedes}
 use Rattle.sets.proofs.rank.Given as goal
 
 abbrev pub invariant-loop-k : goal.invariant-loop-k
-invariant-loop-k l = (l.k ≤ l.n) × ((l.r ≤ l.k) × (l.r ≡ count_to l.k (λ j. precedes l.q (value_at l.values) j l.i)))
-
-abbrev pub decreases-loop-k : goal.decreases-loop-k
-decreases-loop-k l = l.n - l.k
+invariant-loop-k l = (l.r ≤ l.k) × (l.r ≡ count_to l.k (λ j. precedes l.q (value_at l.values) j l.i))

@@ -8,12 +8,12 @@ use Rattle.exact.proofs.Ranges.{count_cong}
 use Rattle.model.specs.Lanes.{reduction}
 use Rattle.model.proofs.Sets.{ones_count}
 use Rattle.exact.proofs.Filled.{get_or_nothing}
-use Rattle.sets.proofs.normal_at.Goals as goal
+use Rattle.sets.proofs.Ranking.normal_at.Goals as goal
 
 pub returns : goal.returns
 returns c =
     let f = c.first_lanes-group.ensures in
-    let n = c.args.n in
+    let n = c.args.self.now.n in
     let r = got w64 c.reduction.type_inv c.reduction.ensures in
     let sum = known w64 f.near (lit< tt) in
     record {
