@@ -16,9 +16,9 @@ use Rattle.print.specs.Text.{account_text, refusal_line, answer_text}
 -- a text at a buffer's start, and the rest as it was
 pub at_start : {w v : Cursor} {xs o : List ℕ} → Puts w xs v → w.at ≡ 0 → v.at ≤ length w.out.now → o ≡ v.out.now → ((v.at ≤ length o) × (v.at ≡ length (take v.at o))) × ((v.at ≡ length xs) × (o ≡ xs ++ drop v.at w.out.now))
 at_start {w} {v} {xs} {o} h start room whole =
-    let e = ap length whole in
-    let room' : v.at ≤ length o = omega (arith, h.long) in
-    ((room', sym (length-take-le v.at o room')), (omega (arith, h.stored.ends), whole ∙ from_start h start room))
+    let long : v.at ≡ length xs = omega (arith, h.stored.ends) in
+    let room' : v.at ≤ length o = omega (arith, h.long, ap length whole) in
+    ((room', sym (length-take-le v.at o room')), (long, from_start h start (omega arith) whole ∙ ap (λ (k : ℕ). xs ++ drop k w.out.now) (sym long)))
 
 pub refused : (a : Answer) → (a.refusal ≡ 0 → ⊥) → refusal_line a.refusal a.place ≡ answer_text a
 refused a f = sym (ap (λ (b : Bool). cond b (account_text a.account) (refusal_line a.refusal a.place)) (ne_eqb _ _ f))
