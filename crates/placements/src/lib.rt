@@ -4,7 +4,6 @@
 ghost use Rattle.std.specs.Prelude.{◌≡◌, ◌<◌};
 ghost use Rattle.buffer.specs.Stored.{HasRoom};
 ghost use Rattle.model.specs.Numbers.{side_number, entry_number};
-ghost use Rattle.model.specs.declared.Entry.TheVariants.{Hn, Ho};
 ghost use Rattle.numbers.specs.NumberBytes.{Written};
 ghost use Rattle.placements.specs.PlacementNumbers.{lane_numbers, placement_numbers, placements_numbers};
 
@@ -21,34 +20,16 @@ pub fn side_number(s: Side) -> u64
     }
 }
 
-// 1 HN raising, 2 HN lowering.
-fn hn_number(s: Sense) -> u64
-    ensures { (result ≡ entry_number (Hn s)) × (result < 5) }
-{
-    match s {
-        Sense::Raising => 1,
-        Sense::Lowering => 2,
-    }
-}
-
-// 3 HO raising, 4 HO lowering.
-fn ho_number(s: Sense) -> u64
-    ensures { (result ≡ entry_number (Ho s)) × (result < 5) }
-{
-    match s {
-        Sense::Raising => 3,
-        Sense::Lowering => 4,
-    }
-}
-
-// 0 for an unloaded lane.
+// 0 for an unloaded lane, 1 HN raising, 2 HN lowering, 3 HO raising, 4 HO lowering.
 fn entry_number(e: Entry) -> u64
     ensures { (result ≡ entry_number e) × (result < 5) }
 {
     match e {
         Entry::Unloaded => 0,
-        Entry::Hn(s) => hn_number(s),
-        Entry::Ho(s) => ho_number(s),
+        Entry::Hn(Sense::Raising) => 1,
+        Entry::Hn(Sense::Lowering) => 2,
+        Entry::Ho(Sense::Raising) => 3,
+        Entry::Ho(Sense::Lowering) => 4,
     }
 }
 
