@@ -37,7 +37,7 @@ pub retold : {w v : Cursor} {bs cs : List ℕ} → bs ≡ cs → Puts w bs v →
 retold {w} {v} e h = subst (λ (l : List ℕ). Puts w l v) e h
 
 -- from a buffer's start: the bytes, and the rest as it was
-pub from_start : {w v : Cursor} {bs : List ℕ} → Puts w bs v → w.at ≡ 0 → v.at ≤ length w.out.now → v.out.now ≡ bs ++ drop v.at w.out.now
-from_start {w} {v} {bs} h start room =
-    let e : 0 + length bs ≡ v.at = omega (arith, h.stored.ends) in
-    h.stored.is ∙ ap (λ (k : ℕ). sets w.out.now k bs) start ∙ sets-eq bs w.out.now 0 (omega arith) ∙ ap (λ (k : ℕ). bs ++ drop k w.out.now) e
+pub from_start : {w v : Cursor} {bs o : List ℕ} → Puts w bs v → w.at ≡ 0 → length bs ≤ length w.out.now → o ≡ v.out.now → o ≡ bs ++ drop (length bs) w.out.now
+from_start {w} {v} {bs} h start room whole =
+    let from_zero : 0 + length bs ≡ length bs = omega arith in
+    whole ∙ h.stored.is ∙ ap (λ (k : ℕ). sets w.out.now k bs) start ∙ sets-eq bs w.out.now 0 (omega arith) ∙ ap (λ (k : ℕ). bs ++ drop k w.out.now) from_zero

@@ -38,6 +38,6 @@ number_read zs rest fit k h =
 -- numbers put at a buffer's front, n bytes of them: their bytes, the rest as it was; and a host reads them
 pub in_front : {w v : Cursor} {zs : List ℤ} {n : ℕ} {o : List ℕ} → Written w zs v → w.at ≡ 0 → 8 * length zs ≡ n → n ≤ length w.out.now → o ≡ v.out.now → (o ≡ numbers_bytes zs ++ drop n w.out.now) × ReadBack o zs
 in_front {w} {v} {zs} {n} {o} h start size room whole =
-    let end : v.at ≡ n = omega (arith, h.ends) in
-    let is = whole ∙ subst (λ (k : ℕ). v.out.now ≡ numbers_bytes zs ++ drop k w.out.now) end (from_start h.bytes start (omega arith)) in
+    let long : length (numbers_bytes zs) ≡ n = omega (arith, h.ends, h.bytes.stored.ends) in
+    let is = from_start h.bytes start (omega arith) whole ∙ ap (λ (k : ℕ). numbers_bytes zs ++ drop k w.out.now) long in
     (is, subst (λ (l : List ℕ). ReadBack l zs) (sym is) (number_read zs _ h.fit))

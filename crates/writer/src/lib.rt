@@ -1,13 +1,14 @@
 // The call that writes a job's standard form.
 #![tactic(auto)]
 
-ghost use Rattle.std.specs.Prelude.{◌≡◌, ◌++◌, ◌+◌, ◌≤◌, length, drop};
-ghost use Rattle.buffer.specs.Stored.{Stored, cleared};
+ghost use Rattle.std.specs.Prelude.{◌≡◌, ◌++◌, ◌≤◌, length, drop};
+ghost use Rattle.buffer.specs.Stored.{HasRoom, Puts, cleared};
 ghost use Rattle.model.specs.Refusals.{packed};
 ghost use Rattle.model.specs.StandardForm.{record_count, form};
 ghost use Rattle.writer.specs.Writable.{Writable, form_front};
 ghost use Rattle.writer.specs.FormWritten.{length_size, FormWritten};
 
+use buffer::Cursor;
 use job::refusals;
 use model::{Header, Part};
 use sections::header;
@@ -47,14 +48,14 @@ fn size(job: &[u8], head: Header, count: usize) -> usize
 }
 
 // The header with C, the lines and the effects.
-fn put_front(out: &mut [u8], job: &[u8], head: Header, count: usize) -> usize
-    requires { Writable job.now head × (count ≡ record_count job.now) × (length (form_front job.now) ≤ length out.old) }
-    ensures { Stored out.old 0 (form_front job.now) out.new result }
+fn put_front(w: &mut Cursor, job: &[u8], head: Header, count: usize)
+    requires { Writable job.now head × (count ≡ record_count job.now) × HasRoom (length (form_front job.now)) w.old }
+    ensures { Puts w.old (form_front job.now) w.new }
 {
     let rows = 4 * sections::start(head, Part::Rows);
-    let mut end = buffer::put_bytes(out, 0, &job[0..COUNT_START]);
-    end = buffer::put_word(out, end, count);
-    buffer::put_bytes(out, end, &job[COUNT_END..rows])
+    w.put(&job[0..COUNT_START]);
+    w.put_word(count);
+    w.put(&job[COUNT_END..rows]);
 }
 
 // The form, in front of the buffer; the rest keeps its contents.
@@ -64,9 +65,10 @@ fn put_form(out: &mut [u8], job: &[u8], head: Header, count: usize)
 {
     let rows = sections::section(job, head, Part::Rows);
     let records = sections::section(job, head, Part::Records);
-    let at = put_front(out, job, head, count);
-    let end = tables::put_rows(out, at, rows, records, head);
-    tables::put_chains(out, end, rows, records, head);
+    let mut w = Cursor { out, at: 0 };
+    put_front(&mut w, job, head, count);
+    tables::put_rows(&mut w, rows, records, head);
+    tables::put_chains(&mut w, rows, records, head);
 }
 
 // The whole call.
@@ -87,6 +89,6 @@ pub fn write(job: &[u8], out: &mut [u8], report: &mut [u8]) -> u64
         return refused(report, 12, bytes as u32);
     }
     put_form(out, job, head, records);
-    numbers::put_count(report, 0, bytes as u64);
+    numbers::put_count(&mut Cursor { out: report, at: 0 }, bytes as u64);
     0
 }

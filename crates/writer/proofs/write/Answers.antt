@@ -1,6 +1,7 @@
 use mathlib.Core.Path.{refl, ◌∙◌, ap}
 use Prim.Native.Nat.{◌≤◌}
 use native.Mathlib.Omega.{arith}
+use borrow.Author.Rules.{rules}
 use lib.ListN.{length}
 use Rattle.model.specs.Refusals.{packed}
 use Rattle.model.proofs.Verdict.{clear, has_header, highway_accepted, write_refuses, form_refused, form_holds}
@@ -40,5 +41,5 @@ pub returns : goal.returns
 returns c =
     let room : 8 ≤ length c.args.report.now = omega (arith, c.if-report-lt-REPORT_SIZE.false) in
     let bytes = c.size-bytes.ensures.0 in
-    let report = in_front (natural bytes c.put_count.ensures) refl room in
+    let report = in_front (natural bytes c.put_count.ensures) refl refl room (search rules) in
     written room (form_holds _ _ (is_accepted c.highway_verdict-ruling.ensures c.if-ruling-ne0.false) (omega (arith, bytes, c.if-out-bytes.false))) refl c.put_form.ensures report.0 report.1
