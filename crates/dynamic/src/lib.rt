@@ -24,27 +24,21 @@ fn of_span(span: usize) -> usize
 fn of_fill(fill: usize) -> usize
     ensures { result ≡ max 1000 (1300 - 3 * fill) }
 {
-    if 100 <= fill {
-        return 1000;
-    }
-    1300 - 3 * fill
+    if 100 <= fill { 1000 } else { 1300 - 3 * fill }
 }
 
-// Of the kind: 1, read off by the sender; 2, below ground; 3, of a fill; else of a span.
+// Of the kind, a number as the header's word and its definition have it: 1, read off by the sender; 2, below ground; 3, of a fill; else of a span.
+#[tactic(auto, unfolding(model::specs::Dynamic::dynamic_factor))]
 fn of_kind(kind: usize, value: usize) -> usize
     requires { value ≤ 5000 }
     ensures { result ≡ dynamic_factor kind value }
 {
-    if kind == 1 {
-        return value;
+    match kind {
+        1 => value,
+        2 => 1000,
+        3 => of_fill(value),
+        _ => of_span(value),
     }
-    if kind == 2 {
-        return 1000;
-    }
-    if kind == 3 {
-        return of_fill(value);
-    }
-    of_span(value)
 }
 
 // The value for a question: the header's, but with kind 4 the span for least, word 10.
@@ -53,14 +47,8 @@ fn value(job: &[u8], head: Header, q: Question) -> usize
     ensures { result ≡ dynamic_value job.now head q }
 {
     match q {
-        Question::Greatest => head.value,
-        Question::Least => {
-            if head.kind == 4 {
-                words::count(job, 10)
-            } else {
-                head.value
-            }
-        }
+        Question::Least if head.kind == 4 => words::count(job, 10),
+        Question::Greatest | Question::Least => head.value,
     }
 }
 
