@@ -168,6 +168,7 @@ struct Others {
 // ---- the lanes by rank
 
 // A question's HN values of n lanes, and the lanes' ranks.
+#[derive(Clone, Copy)]
 pub struct Ranking {
     pub q: Question,
     pub n: usize,
