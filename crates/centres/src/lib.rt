@@ -128,6 +128,7 @@ struct Decks {
 }
 
 // The greatest and least ordinate of lane i, by the transverse sections of both carriageways: the second one's lanes follow the first one's.
+#[tactic(auto, using(crate::proofs::LaneLimits::on_first, crate::proofs::LaneLimits::on_second))]
 fn span_of(near: &[u8], far: &[u8], d: Decks, i: usize) -> Span
     requires { DecksFit near.now far.now d × (i < d.lanes + d.beyond) }
     ensures { (job : Job) → DecksOf near.now far.now d.width d.second d.g job → SpanRight (deck_of job i) (number_on job i) result }
@@ -140,6 +141,7 @@ fn span_of(near: &[u8], far: &[u8], d: Decks, i: usize) -> Span
 }
 
 // The greatest and least ordinate of each lane, and zeros to ten.
+#[tactic(auto, using(crate::proofs::LaneLimits::decks_few))]
 fn spans(near: &[u8], far: &[u8], d: Decks) -> [Span; 10]
     requires { DecksFit near.now far.now d }
     ensures span_right { (job : Job) → DecksOf near.now far.now d.width d.second d.g job → (i : ℕ) → i < lanes job → SpanRight (deck_of job i) (number_on job i) (get_or result i no_span) }

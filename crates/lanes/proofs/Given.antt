@@ -4,11 +4,13 @@ use mathlib.Core.Path.{◌≡◌, refl, sym, ◌∙◌, ap, ap₂, subst}
 use mathlib.Core.Bool.{true≢false, ◌&&◌}
 use mathlib.Core.List.{List}
 use Prim.Native.Nat.{ℕ, ◌-◌, ◌*◌, ◌^◌, ◌≤◌, ◌<◌, max}
+use native.Mathlib.Nat.{lt_of_lt_of_le}
 use native.Mathlib.Omega.{arith}
 use lib.Count.{ones}
 use lib.Dec.{ltb, eqb}
 use lib.IntN.{ℤ, pos, ◌*ℤ◌}
 use lib.ListN.{get_or}
+use lib.Pow.{pow_mono}
 use borrow.Author.Tests.{eq-eqb}
 use Rattle.exact.specs.Bounds.{Within}
 use Rattle.exact.specs.Questions.{NoBetter}
@@ -25,16 +27,17 @@ use Rattle.exact.proofs.Bounds.{within_le}
 use Rattle.model.proofs.Assignments.{overload_cong}
 use Rattle.model.proofs.Lanes.{deck_spaced}
 use Rattle.model.proofs.LiveSums.{sum_on_cong}
-use Rattle.magnitudes.specs.Magnitudes.{transverse_most, among}
-use Rattle.centres.specs.Spans.{AcrossFits, Spanned, no_span}
-use Rattle.centres.specs.declared.Across.{Across}
+use Rattle.magnitudes.specs.Magnitudes.{transverse_most, among, sum_most}
+use Rattle.centres.specs.Spans.{no_span}
+use Rattle.centres.specs.Spanned.{Spanned}
+use Rattle.centres.specs.declared.across.Across.{Across}
 use Rattle.sets.specs.Sets.{value_at, ValuesFit, LoadingRight}
 use Rattle.sets.specs.declared.Loading.{Loading}
+use Rattle.sets.specs.declared.Ranking.{Ranking}
 use Rattle.sets.proofs.Reduced.{among_times}
-use Rattle.lanes.specs.Entries.{LineEffectsFit, LoadsFit, other_in, times, effects_in, chosen, chosen_in}
+use Rattle.lanes.specs.Entries.{Effects, LineEffectsFit, LoadsFit, other_in, times, effects_in, chosen, chosen_in}
 use Rattle.lanes.specs.Loadings.{effects_of, ElementRight, LoadingOf}
 use Rattle.lanes.specs.declared.entries.Chosen.{Chosen}
-use Rattle.lanes.specs.declared.traffic.Effects.{Effects}
 use Rattle.lanes.proofs.Elements.{chosen_near, chosen_some, chosen_element}
 
 -- in a job whose line effects these are, each lane's chosen element gives its best
@@ -52,8 +55,9 @@ module _ (q : Question) (across : Across) (e : Effects) {b : ℕ} (fit : LoadsFi
 
   -- their effects as an array has them
   module _ (v : List ℤ) (are : (i : ℕ) → i < across.lanes → value_at v i ≡ (chosen_in q across e i).value) where
-    pub values_fit : AcrossFits across → ValuesFit q (among across.lanes (transverse_most * b)) across.lanes (value_at v)
-    values_fit fits =
+    pub values_fit : ValuesFit q (among across.lanes (transverse_most * b)) across.lanes (value_at v)
+    values_fit =
+        let fits = across.fits in
         let most = among across.lanes (transverse_most * b) in
         record {
           some = λ i h. subst (NoBetter q _) (sym (are i h)) (chosen_some q (get_or across.spans i no_span) (effects_in across e i) (fits.spans i h) (fit.each i h));
@@ -64,8 +68,8 @@ module _ (q : Question) (across : Across) (e : Effects) {b : ℕ} (fit : LoadsFi
     effects job kind on is i h = are i h ∙ (elements job kind on is i h).value
 
 -- one to ten lanes
-pub some_lanes : {across : Across} → AcrossFits across → (0 < across.lanes) × (across.lanes ≤ 10)
-some_lanes fits = (omega (arith, fits.both, fits.some), omega (arith, fits.both, fits.few, fits.second_few))
+pub some_lanes : (across : Across) → (0 < across.lanes) × (across.lanes ≤ 10)
+some_lanes across = let fits = across.fits in (omega arith, omega arith)
 
 -- ---- the same of equal values
 set_sum_cong : (r : ℕ → ℤ) (n set : ℕ) (f g : ℕ → ℤ) → ((i : ℕ) → i < n → f i ≡ g i) → set_sum r n f set ≡ set_sum r n g set
@@ -99,24 +103,35 @@ module _ (q : Question) (n : ℕ) (hn hn' ho ho' : ℕ → ℤ) (some : 0 < n) (
   }
 
 -- a live kind's best loading over the elements' values is the job's
-pub loading_of : (q : Question) (job : Job) (p : Profile) (live : Live) (across : Across) (dynamic : ℕ) (best : Loading) (hn ho : ℕ → Chosen) (f g : ℕ → ℤ) → 0 < across.lanes → Spanned job across → job.profile ≡ p → dynamic ≡ job.dynamic q →
+pub loading_of : (q : Question) (job : Job) (p : Profile) (live : Live) (across : Across) (dynamic : ℕ) (best : Loading) (hn ho : ℕ → Chosen) (f g : ℕ → ℤ) → Spanned job across → job.profile ≡ p → dynamic ≡ job.dynamic q →
     LoadingRight q p live across.lanes f g best → ((i : ℕ) → i < across.lanes → f i ≡ lane_effect q job HN i) → ((i : ℕ) → i < across.lanes → g i ≡ lane_effect q job HO i) →
     ((i : ℕ) → i < across.lanes → ElementRight q job HN i (hn i)) → ((i : ℕ) → i < across.lanes → i ≡ best.lane → ElementRight q job HO i (ho i)) →
     LoadingOf q job live across dynamic best hn ho
-loading_of q job p live across dynamic best hn ho f g some on loads factor l is_f is-g under_hn_lem under_ho_lem = record {
+loading_of q job p live across dynamic best hn ho f g on loads factor l is_f is-g under_hn_lem under_ho_lem = record {
   spanned = on;
   dynamic_is = factor;
   loading = subst (λ (p : Profile). LoadingRight q p live (lanes job) (lane_effect q job HN) (lane_effect q job HO) best) (sym loads)
       (subst (λ (n : ℕ). LoadingRight q p live n (lane_effect q job HN) (lane_effect q job HO) best) on.lanes
-      (loading_cong q across.lanes f (lane_effect q job HN) g (lane_effect q job HO) some is_f is-g p live best l));
+      (loading_cong q across.lanes f (lane_effect q job HN) g (lane_effect q job HO) (some_lanes across).0 is_f is-g p live best l));
   under_hn = subst (λ (n : ℕ). (i : ℕ) → i < n → ElementRight q job HN i (hn i)) on.lanes under_hn_lem;
   under_ho = subst (λ (n : ℕ). (i : ℕ) → i < n → i ≡ best.lane → ElementRight q job HO i (ho i)) on.lanes under_ho_lem;
 }
 
 -- one without a lane under HO
-pub hn_loading : (q : Question) (job : Job) (p : Profile) (live : Live) (across : Across) (dynamic : ℕ) (best : Loading) (hn ho : ℕ → Chosen) (f : ℕ → ℤ) → 0 < across.lanes → Spanned job across → job.profile ≡ p → dynamic ≡ job.dynamic q →
+pub hn_loading : (q : Question) (job : Job) (p : Profile) (live : Live) (across : Across) (dynamic : ℕ) (best : Loading) (hn ho : ℕ → Chosen) (f : ℕ → ℤ) → Spanned job across → job.profile ≡ p → dynamic ≡ job.dynamic q →
     LoadingRight q p live across.lanes f (lane_effect q job HO) best → count_to across.lanes (λ i. eqb i best.lane) ≡ 0 → ((i : ℕ) → i < across.lanes → f i ≡ lane_effect q job HN i) →
     ((i : ℕ) → i < across.lanes → ElementRight q job HN i (hn i)) → LoadingOf q job live across dynamic best hn ho
-hn_loading q job p live across dynamic best hn ho f some on loads factor l none is_f under_hn_lem =
-    loading_of q job p live across dynamic best hn ho f (lane_effect q job HO) some on loads factor l is_f (λ i h. refl) under_hn_lem
+hn_loading q job p live across dynamic best hn ho f on loads factor l none is_f under_hn_lem =
+    loading_of q job p live across dynamic best hn ho f (lane_effect q job HO) on loads factor l is_f (λ i h. refl) under_hn_lem
     (λ i h e. absurd (true≢false (sym (eq-eqb i best.lane e) ∙ count_none across.lanes (λ k. eqb k best.lane) none i h)))
+
+-- ---- a loading to place
+-- its set is of ten lanes, and its sum near enough
+pub to_place : {q : Question} {p : Profile} {live : Live} {n : ℕ} {hn ho : ℕ → ℤ} {best : Loading} → n ≤ 10 → LoadingRight q p live n hn ho best → (best.set < 1024) × Within sum_most best.value
+to_place {n = n} few l = (lt_of_lt_of_le l.small (pow_mono {i = n} {j = 10} few), l.near)
+
+-- one that was found by a ranking of these values
+pub by_ranking : (r : Ranking) {p : Profile} {live : Live} {ho : ℕ → ℤ} {best : Loading} {q : Question} {n : ℕ} {v : List ℤ} → (r.q ≡ q) × (r.n ≡ n) × (r.hn ≡ v) → LoadingRight r.q p live r.n (value_at r.hn) ho best → LoadingRight q p live n (value_at v) ho best
+by_ranking r {p} {live} {ho} {best} {q} {n} e l =
+    subst (λ (v : List ℤ). LoadingRight q p live n (value_at v) ho best) e.2
+    (subst (λ (n : ℕ). LoadingRight q p live n (value_at r.hn) ho best) e.1 (subst (λ (q : Question). LoadingRight q p live r.n (value_at r.hn) ho best) e.0 l))

@@ -29,7 +29,7 @@ use Rattle.model.specs.declared.Lane.{Lane}
 use Rattle.model.specs.declared.Extreme.{Extreme}
 use Rattle.model.proofs.Sets.{set_number, set_number_lem, number_cong, number_with}
 use Rattle.model.proofs.Attained.{placed_lanes_lem, placed_sum_lem, placed_factors, never_additional}
-use Rattle.centres.specs.declared.Across.{Across}
+use Rattle.centres.specs.declared.across.Across.{Across}
 use Rattle.sets.specs.Sets.{number_at}
 use Rattle.sets.specs.declared.Loading.{Loading}
 use Rattle.sets.proofs.SetNumbers.{bit_past}

@@ -1,17 +1,18 @@
 -- A lane's best element: raising where the question's ordinate is, or lowering where the other question's is.
-use Rattle.std.specs.Prelude.{Bool, ℕ, ◌<◌, max, ℤ, pos, ◌*ℤ◌, get_or, ltb, ◌≤ℤ◌, if◌then◌else◌}
+use Rattle.std.specs.Prelude.{ℕ, ◌<◌, max, ℤ, pos, ◌*ℤ◌, get_or, ltb, ◌≤ℤ◌, if◌then◌else◌}
 use Rattle.exact.specs.Bounds.{Within}
-use Rattle.exact.specs.Questions.{beats, other}
+use Rattle.exact.specs.Questions.{other, for_question, better_by}
 use Rattle.exact.specs.declared.Question.{Question}
-use Rattle.exact.specs.declared.Question.TheVariants.{Greatest, Least}
+use Rattle.model.specs.declared.BySense.{BySense}
 use Rattle.model.specs.declared.Sense.TheVariants.{Raising, Lowering}
 use Rattle.magnitudes.specs.Magnitudes.{among}
-use Rattle.centres.specs.Spans.{no_span}
-use Rattle.centres.specs.declared.Across.{Across}
-use Rattle.centres.specs.declared.Centre.{Centre}
-use Rattle.centres.specs.declared.Span.{Span}
+use Rattle.centres.specs.Spans.{Span, no_span}
+use Rattle.centres.specs.declared.across.Across.{Across}
 use Rattle.lanes.specs.declared.entries.Chosen.{Chosen}
-use Rattle.lanes.specs.declared.traffic.Effects.{Effects}
+
+-- raising and lowering line effects
+abbrev pub Effects : Type 0
+Effects = BySense ℤ
 
 -- line effects: raising is not below 0, lowering not above, both at most b from 0
 pub record LineEffectsFit (b : ℕ) (e : Effects) : Type 0 where
@@ -20,28 +21,17 @@ pub record LineEffectsFit (b : ℕ) (e : Effects) : Type 0 where
   pub raising : Within b e.raising
   pub lowering : Within b e.lowering
 
--- the centre with the question's best ordinate
-abbrev pub best_of : Question → Span → Centre
-best_of Greatest span = span.greatest
-best_of Least span = span.least
+-- a lane's raising element, at the question's best ordinate
+abbrev pub raising_of : Question → Span → Effects → Chosen
+raising_of q span e = let c = for_question q span in record { value = c.ordinate *ℤ e.raising; sense = Raising; centre = c.at }
 
--- the effect of a raising element at the question's best ordinate
-abbrev pub raised : Question → Span → Effects → ℤ
-raised q span e = (best_of q span).ordinate *ℤ e.raising
-
--- the effect of a lowering element at the other question's best ordinate
-abbrev pub lowered : Question → Span → Effects → ℤ
-lowered q span e = (best_of (other q) span).ordinate *ℤ e.lowering
-
--- a lane's lowering element, or its raising one
-abbrev pub element_of : Question → Span → Effects → (lowers : Bool) → Chosen
-element_of q span e lowers =
-    if lowers then record { value = lowered q span e; sense = Lowering; centre = (best_of (other q) span).at }
-    else record { value = raised q span e; sense = Raising; centre = (best_of q span).at }
+-- its lowering element, at the other question's best ordinate
+abbrev pub lowering_of : Question → Span → Effects → Chosen
+lowering_of q span e = let c = for_question (other q) span in record { value = c.ordinate *ℤ e.lowering; sense = Lowering; centre = c.at }
 
 -- the better of a lane's two elements, raising at a tie
 abbrev pub chosen : Question → Span → Effects → Chosen
-chosen q span e = element_of q span e (beats q (lowered q span e) (raised q span e))
+chosen q span e = better_by (λ c. c.value) q (raising_of q span e) (lowering_of q span e)
 
 -- ---- the lanes of both carriageways
 

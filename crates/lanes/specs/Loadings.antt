@@ -1,27 +1,38 @@
 -- A live kind's best loading in a job: each lane's element, the lanes of its placement, and its value.
 use Rattle.std.specs.Prelude.{◌≡◌, Bool, List, ℕ, ◌≤◌, ◌<◌, length, get_or, eqb, if◌then◌else◌}
 use Rattle.exact.specs.declared.Question.{Question}
-use Rattle.model.specs.Job.{Job, Live}
+use Rattle.model.specs.Job.{Job, Live, rural}
+use Rattle.model.specs.Format.{profile_of}
 use Rattle.model.specs.Line.{Kind, HN, HO, line_effect}
 use Rattle.model.specs.Lanes.{bit, lanes}
 use Rattle.model.specs.Traffic.{lane_effect, best_sum, traffic_value}
 use Rattle.model.specs.Arrangements.{KindsFit, FactorsFit}
 use Rattle.model.specs.Answered.{empty_lane, lane_at, factor_at, set_of}
 use Rattle.model.specs.Placements.{BestCentre, EntryRight, entry_is, placed_lanes, placed_sum}
+use Rattle.magnitudes.specs.Magnitudes.{hn_line_most, ho_line_most}
+use Rattle.model.specs.declared.Edition.{Edition}
 use Rattle.model.specs.declared.Sense.TheVariants.{Raising, Lowering}
 use Rattle.model.specs.declared.Entry.TheVariants.{Unloaded, Hn, Ho}
 use Rattle.model.specs.declared.Lane.{Lane}
 use Rattle.model.specs.declared.Extreme.{Extreme}
-use Rattle.centres.specs.Spans.{Spanned}
-use Rattle.centres.specs.declared.Across.{Across}
+use Rattle.centres.specs.Spanned.{Spanned}
+use Rattle.centres.specs.declared.across.Across.{Across}
 use Rattle.sets.specs.Sets.{number_at, LoadingRight}
 use Rattle.sets.specs.declared.Loading.{Loading}
+use Rattle.lanes.specs.Entries.{Effects, LoadsFit}
 use Rattle.lanes.specs.declared.entries.Chosen.{Chosen}
-use Rattle.lanes.specs.declared.traffic.Effects.{Effects}
 
 -- a kind's line effects in a job
 abbrev pub effects_of : Job → Kind → Effects
 effects_of job kind = record { raising = line_effect job.line kind Raising; lowering = line_effect job.line kind Lowering }
+
+-- what is asked of a question's loads: one lane on a rural bridge, a dynamic factor from 1 to 1.3, and line effects near enough
+pub record TrafficFits (edition : Edition) (across : Across) (dynamic : ℕ) (hn ho : Effects) : Type 0 where
+  pub one : profile_of edition ≡ rural → across.lanes ≡ 1
+  pub least : 1000 ≤ dynamic
+  pub most : dynamic ≤ 1300
+  pub light : LoadsFit hn_line_most across hn
+  pub heavy : LoadsFit ho_line_most across ho
 
 -- ---- the lanes of a placement
 

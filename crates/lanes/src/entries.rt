@@ -1,14 +1,13 @@
 // The best entry of each lane for a kind and a question.
 ghost use Rattle.std.specs.Prelude.{◌≡◌, ℕ, ◌≤◌, ◌<◌};
-ghost use Rattle.exact.specs.Questions.{other};
 ghost use Rattle.magnitudes.specs.Magnitudes.{ho_line_most};
-ghost use Rattle.centres.specs.Spans.{SpanFits, AcrossFits};
+ghost use Rattle.centres.specs.Spans.{SpanFits};
 ghost use Rattle.sets.specs.Sets.{value_at};
-ghost use Rattle.lanes.specs.Entries.{LineEffectsFit, LoadsFit, other_in, effects_in, best_of, chosen, chosen_in};
+ghost use Rattle.lanes.specs.Entries.{LineEffectsFit, LoadsFit, other_in, effects_in, chosen, chosen_in};
 
 use crate::traffic::Effects;
-use centres::{Across, Centre, Span};
-use exact::Question;
+use centres::{Across, Span};
+use exact::{Question, Valued};
 use model::Sense;
 
 // A lane's best element: its effect, its sense and its centre.
@@ -19,47 +18,32 @@ pub(crate) struct Chosen {
     pub centre: u32,
 }
 
-// The centre with the question's best ordinate.
-fn best_of(q: Question, span: Span) -> Centre
-    ensures { result ≡ best_of q span }
-{
-    match q {
-        Question::Greatest => span.greatest,
-        Question::Least => span.least,
+impl Valued for Chosen {
+    ghost value_of = { λ c. c.value };
+
+    fn value(&self) -> i64 {
+        self.value
     }
 }
 
-// The centre with the other question's best ordinate.
-fn worst_of(q: Question, span: Span) -> Centre
-    ensures { result ≡ best_of (other q) span }
-{
-    match q {
-        Question::Greatest => span.least,
-        Question::Least => span.greatest,
-    }
-}
-
-// The best element of a lane with this span, under these line effects.
-pub(crate) fn choose(q: Question, span: Span, e: Effects) -> Chosen
+// The best element of a lane with this span, under these line effects: raising at the question's best ordinate, or lowering at the other's.
+fn choose(q: Question, span: Span, e: Effects) -> Chosen
     requires { SpanFits span × LineEffectsFit ho_line_most e }
     ensures { result ≡ chosen q span e }
 {
-    let r = best_of(q, span);
-    let l = worst_of(q, span);
-    let up = (r.ordinate as i64) * e.raising;
-    let down = (l.ordinate as i64) * e.lowering;
-    if exact::beats(q, down, up) {
-        return Chosen {
-            value: down,
-            sense: Sense::Lowering,
-            centre: l.at,
-        };
-    }
-    Chosen {
-        value: up,
+    let r = span.of(q);
+    let l = span.of(q.other());
+    let raising = Chosen {
+        value: (r.ordinate as i64) * e.raising,
         sense: Sense::Raising,
         centre: r.at,
-    }
+    };
+    let lowering = Chosen {
+        value: (l.ordinate as i64) * e.lowering,
+        sense: Sense::Lowering,
+        centre: l.at,
+    };
+    exact::better(q, raising, lowering)
 }
 
 // n of the carriageway that lane i is not on, 1 where there is none.
@@ -67,19 +51,13 @@ fn other_lanes(first: usize, second: usize, i: usize) -> usize
     requires { (first ≤ 5) × (second ≤ 5) }
     ensures { (result ≡ other_in first second i) × (result ≤ 5) }
 {
-    if first <= i {
-        return first;
-    }
-    if second == 0 {
-        return 1;
-    }
-    second
+    if i < first { second.max(1) } else { first }
 }
 
 // Line effects as lane i counts them, in units of both carriageways.
-pub(crate) fn effects_in(across: Across, e: Effects, i: usize) -> Effects
-    requires { AcrossFits across × LoadsFit ho_line_most across e × (i < across.lanes) }
-    ensures { result ≡ effects_in across e i }
+fn effects_in(across: &Across, e: Effects, i: usize) -> Effects
+    requires { LoadsFit ho_line_most across.now e × (i < across.now.lanes) }
+    ensures { result ≡ effects_in across.now e i }
 {
     let m = other_lanes(across.first, across.second, i) as i64;
     Effects {
@@ -88,17 +66,22 @@ pub(crate) fn effects_in(across: Across, e: Effects, i: usize) -> Effects
     }
 }
 
-// The effect of each lane's best element.
-pub(crate) fn values(q: Question, across: Across, e: Effects) -> [i64; 10]
-    requires { AcrossFits across × LoadsFit ho_line_most across e }
-    ensures { (i : ℕ) → i < across.lanes → value_at result i ≡ (chosen_in q across e i).value }
+// The best element of lane i.
+pub(crate) fn choose_in(q: Question, across: &Across, e: Effects, i: usize) -> Chosen
+    requires { LoadsFit ho_line_most across.now e × (i < across.now.lanes) }
+    ensures { result ≡ chosen_in q across.now e i }
 {
-    let n = across.lanes;
+    choose(q, across.spans[i], effects_in(across, e, i))
+}
+
+// The effect of each lane's best element.
+pub(crate) fn values(q: Question, across: &Across, e: Effects) -> [i64; 10]
+    requires { LoadsFit ho_line_most across.now e }
+    ensures { (i : ℕ) → i < across.now.lanes → value_at result i ≡ (chosen_in q across.now e i).value }
+{
     let mut values = [0i64; 10];
-    for i in 0..n {
-        let c = choose(q, across.spans[i], effects_in(across, e, i));
-        let v = c.value;
-        values[i] = v;
+    for i in 0..across.lanes {
+        values[i] = choose_in(q, across, e, i).value;
     }
     values
 }

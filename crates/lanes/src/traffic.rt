@@ -1,77 +1,28 @@
 // The traffic values with their placements.
 ghost use Rattle.std.specs.Prelude.{◌≡◌, ◌≤◌, ◌<◌};
 ghost use Rattle.exact.specs.Bounds.{Within};
-ghost use Rattle.model.specs.Job.{highway as highwayLoads, rural as ruralLoads, Job, Live, normal, overload};
 ghost use Rattle.model.specs.Format.{profile_of};
-ghost use Rattle.model.specs.Line.{HN, HO};
+ghost use Rattle.model.specs.Job.{highway as highwayLoads, rural as ruralLoads, Job, Live, normal, overload};
 ghost use Rattle.model.specs.Traffic.{effect_of};
-ghost use Rattle.magnitudes.specs.Magnitudes.{hn_line_most, ho_line_most, sum_most, traffic_most};
-ghost use Rattle.centres.specs.Spans.{SpanFits, AcrossFits, Spanned};
-ghost use Rattle.lanes.specs.Entries.{LineEffectsFit, LoadsFit, chosen, chosen_in};
-ghost use Rattle.lanes.specs.Loadings.{effects_of, lane_of, LanesPlaced, LoadingOf, TrafficPlaced};
+ghost use Rattle.magnitudes.specs.Magnitudes.{sum_most, traffic_most};
+ghost use Rattle.lanes.specs.Entries.{chosen_in};
+ghost use Rattle.lanes.specs.Loadings.{lane_of, LanesPlaced, LoadingOf, TrafficPlaced, TrafficFits};
 
 use crate::entries;
-use centres::{Across, Span};
+use centres::Across;
 use exact::Question;
-use model::{Edition, Entry, Extreme, Lane, Placement};
-use sets::Loading;
+use model::{ByLive, BySense, Edition, Entry, Extreme, Lane, Placement};
+use sets::{Loading, Ranking};
 
 // Raising and lowering line effects of a kind.
-#[derive(Clone, Copy)]
-pub struct Effects {
-    pub raising: i64,
-    pub lowering: i64,
-}
+pub type Effects = BySense<i64>;
 
-// Lane i of a placement: HO in its lane, HN where the set has it, with its factor.
-fn lane(q: Question, span: Span, best: Loading, i: usize, hn: Effects, ho: Effects) -> Lane
-    requires { (i < 10) × SpanFits span × LineEffectsFit ho_line_most hn × LineEffectsFit ho_line_most ho }
-    ensures { result ≡ lane_of best i (chosen q span hn) (chosen q span ho) }
-{
-    if i == best.lane {
-        let c = entries::choose(q, span, ho);
-        let s = c.sense;
-        return Lane {
-            entry: Entry::Ho(s),
-            centre: c.centre,
-            factor: 0,
-        };
-    }
-    if sets::has(best.set, i) {
-        let c = entries::choose(q, span, hn);
-        let s = c.sense;
-        return Lane {
-            entry: Entry::Hn(s),
-            centre: c.centre,
-            factor: best.factors[i],
-        };
-    }
-    Lane {
-        entry: Entry::Unloaded,
-        centre: 0,
-        factor: 0,
-    }
-}
-
-// The lanes of a loading's placement.
-fn placed(q: Question, across: Across, best: Loading, hn: Effects, ho: Effects) -> [Lane; 10]
-    requires { AcrossFits across × LoadsFit ho_line_most across hn × LoadsFit ho_line_most across ho }
-    ensures { LanesPlaced best across.lanes (chosen_in q across hn) (chosen_in q across ho) result }
-{
-    let none = Lane {
-        entry: Entry::Unloaded,
-        centre: 0,
-        factor: 0,
-    };
-    let mut lanes = [none; 10];
-    for i in 0..across.lanes {
-        let light = entries::effects_in(across, hn, i);
-        let heavy = entries::effects_in(across, ho, i);
-        let l = lane(q, across.spans[i], best, i, light, heavy);
-        lanes[i] = l;
-    }
-    lanes
-}
+// A lane that carries nothing.
+const UNLOADED: Lane = Lane {
+    entry: Entry::Unloaded,
+    centre: 0,
+    factor: 0,
+};
 
 // 3 X / 800000 rounded, of a sum times d before the dynamic factor.
 fn value(q: Question, dynamic: usize, sum: i64, d: usize) -> i64
@@ -83,74 +34,108 @@ fn value(q: Question, dynamic: usize, sum: i64, d: usize) -> i64
     exact::rounded(q, x, unit)
 }
 
-// A live kind's best loading as its value and placement.
-fn found(
-    q: Question,
-    across: Across,
-    dynamic: usize,
-    best: Loading,
-    hn: Effects,
-    ho: Effects,
-) -> Extreme
-    requires { AcrossFits across × (1000 ≤ dynamic) × (dynamic ≤ 1300) × LoadsFit ho_line_most across hn × LoadsFit ho_line_most across ho × (best.set < 1024) × Within sum_most best.value }
-    ensures { Within traffic_most result.value × ((job : Job) (live : Live) → LoadingOf q job live across dynamic best (chosen_in q across hn) (chosen_in q across ho) → TrafficPlaced q job live result) }
-{
-    let lanes = placed(q, across, best, hn, ho);
-    let set = sets::loaded(best.set, best.lane);
-    let value = value(q, dynamic, best.value, across.denominator);
-    let placement = Placement { set, lanes };
-    Extreme { value, placement }
-}
-
-// A question's traffic values.
+// What a question's traffic values go by: the edition, what lies across the line, the dynamic factor in thousandths, and the line effects of HN and HO.
 #[derive(Clone, Copy)]
-pub struct Extremes {
-    pub normal: Extreme,
-    pub overload: Extreme,
+pub struct Loads {
+    pub q: Question,
+    pub edition: Edition,
+    pub across: Across,
+    pub dynamic: usize,
+    pub hn: Effects,
+    pub ho: Effects,
+    pub ghost fits: { TrafficFits edition across dynamic hn ho },
 }
 
-// The loads of a highway. Normal: the best set of lanes under HN. Overload: the best lane under HO, others under HN and their factors.
-fn highway(q: Question, across: Across, dynamic: usize, hn: Effects, ho: Effects) -> Extremes
-    requires { AcrossFits across × (1000 ≤ dynamic) × (dynamic ≤ 1300) × LoadsFit hn_line_most across hn × LoadsFit ho_line_most across ho }
-    ensures { Within traffic_most result.normal.value × Within traffic_most result.overload.value × ((job : Job) → Spanned job across → job.profile ≡ highwayLoads → dynamic ≡ job.dynamic q → hn ≡ effects_of job HN → ho ≡ effects_of job HO → TrafficPlaced q job normal result.normal × TrafficPlaced q job overload result.overload) }
-{
-    let light = entries::values(q, across, hn);
-    let heavy = entries::values(q, across, ho);
-    let ranks = sets::ranks(q, light, across.lanes);
-    let set = sets::best_normal(q, ranks, light, across.lanes);
-    let pair = sets::best_overload(q, ranks, light, heavy, across.lanes);
-    let normal = found(q, across, dynamic, set, hn, hn);
-    let overload = found(q, across, dynamic, pair, hn, ho);
-    Extremes { normal, overload }
-}
+impl Loads {
+    ghost use Rattle.lanes.specs.LoadsOf.{LoadsOf};
 
-// A rural bridge. Normal: its one lane under 0.85 HN. Overload: no lane.
-fn rural(q: Question, across: Across, dynamic: usize, hn: Effects) -> Extremes
-    requires { AcrossFits across × (across.lanes ≡ 1) × (1000 ≤ dynamic) × (dynamic ≤ 1300) × LoadsFit hn_line_most across hn }
-    ensures { Within traffic_most result.normal.value × Within traffic_most result.overload.value × ((job : Job) → Spanned job across → job.profile ≡ ruralLoads → dynamic ≡ job.dynamic q → hn ≡ effects_of job HN → TrafficPlaced q job normal result.normal × TrafficPlaced q job overload result.overload) }
-{
-    let light = entries::values(q, across, hn);
-    let one = sets::one_lane(light[0]);
-    let none = sets::no_lane();
-    let normal = found(q, across, dynamic, one, hn, hn);
-    let overload = found(q, across, dynamic, none, hn, hn);
-    Extremes { normal, overload }
-}
+    // Lane i of a placement: HO in its lane, HN where the set has it, with its factor.
+    fn lane(&self, best: Loading, i: usize) -> Lane
+        requires { i < self.now.across.lanes }
+        ensures { result ≡ lane_of best i (chosen_in self.now.q self.now.across self.now.hn i) (chosen_in self.now.q self.now.across self.now.ho i) }
+    {
+        if i == best.lane {
+            let c = entries::choose_in(self.q, &self.across, self.ho, i);
+            Lane {
+                entry: Entry::Ho(c.sense),
+                centre: c.centre,
+                factor: 0,
+            }
+        } else if sets::has(best.set, i) {
+            let c = entries::choose_in(self.q, &self.across, self.hn, i);
+            Lane {
+                entry: Entry::Hn(c.sense),
+                centre: c.centre,
+                factor: best.factors[i],
+            }
+        } else {
+            UNLOADED
+        }
+    }
 
-// The traffic values of an edition's loads.
-pub fn both(
-    q: Question,
-    edition: Edition,
-    across: Across,
-    dynamic: usize,
-    hn: Effects,
-    ho: Effects,
-) -> Extremes
-    requires { AcrossFits across × (profile_of edition ≡ ruralLoads → across.lanes ≡ 1) × (1000 ≤ dynamic) × (dynamic ≤ 1300) × LoadsFit hn_line_most across hn × LoadsFit ho_line_most across ho }
-    ensures { Within traffic_most result.normal.value × Within traffic_most result.overload.value × ((job : Job) → Spanned job across → job.profile ≡ profile_of edition → dynamic ≡ job.dynamic q → hn ≡ effects_of job HN → ho ≡ effects_of job HO → TrafficPlaced q job normal result.normal × TrafficPlaced q job overload result.overload) }
-{
-    match edition {
-        Edition::First | Edition::Second | Edition::Third => highway(q, across, dynamic, hn, ho),
-        Edition::Fourth => rural(q, across, dynamic, hn),
+    // The lanes of a loading's placement.
+    fn placed(&self, best: Loading) -> [Lane; 10]
+        ensures { LanesPlaced best self.now.across.lanes (chosen_in self.now.q self.now.across self.now.hn) (chosen_in self.now.q self.now.across self.now.ho) result }
+    {
+        let mut lanes = [UNLOADED; 10];
+        for i in 0..self.across.lanes {
+            lanes[i] = self.lane(best, i);
+        }
+        lanes
+    }
+
+    // A live kind's best loading as its value and placement.
+    fn found(&self, best: Loading) -> Extreme
+        requires { (best.set < 1024) × Within sum_most best.value }
+        ensures near { Within traffic_most result.value }
+        ensures placed { (job : Job) (live : Live) → LoadingOf self.now.q job live self.now.across self.now.dynamic best (chosen_in self.now.q self.now.across self.now.hn) (chosen_in self.now.q self.now.across self.now.ho) → TrafficPlaced self.now.q job live result }
+    {
+        let lanes = self.placed(best);
+        Extreme {
+            value: value(self.q, self.dynamic, best.value, self.across.denominator),
+            placement: Placement {
+                set: sets::loaded(best.set, best.lane),
+                lanes,
+            },
+        }
+    }
+
+    // The loads of a highway. Normal: the best set of lanes under HN. Overload: the best lane under HO, others under HN and their factors.
+    fn highway(&self) -> ByLive<Extreme>
+        requires { profile_of self.now.edition ≡ highwayLoads }
+        ensures near { Within traffic_most result.normal.value × Within traffic_most result.overload.value }
+        ensures placed { (job : Job) → LoadsOf job self.now → TrafficPlaced self.now.q job normal result.normal × TrafficPlaced self.now.q job overload result.overload }
+    {
+        let light = entries::values(self.q, &self.across, self.hn);
+        let heavy = entries::values(self.q, &self.across, self.ho);
+        let ranking = Ranking::new(self.q, light, self.across.lanes);
+        ByLive {
+            normal: self.found(ranking.best_normal()),
+            overload: self.found(ranking.best_overload(heavy)),
+        }
+    }
+
+    // A rural bridge. Normal: its one lane under 0.85 HN. Overload: no lane.
+    fn rural(&self) -> ByLive<Extreme>
+        requires { profile_of self.now.edition ≡ ruralLoads }
+        ensures near { Within traffic_most result.normal.value × Within traffic_most result.overload.value }
+        ensures placed { (job : Job) → LoadsOf job self.now → TrafficPlaced self.now.q job normal result.normal × TrafficPlaced self.now.q job overload result.overload }
+    {
+        let light = entries::values(self.q, &self.across, self.hn);
+        ByLive {
+            normal: self.found(sets::one_lane(light[0])),
+            overload: self.found(sets::no_lane()),
+        }
+    }
+
+    // The traffic values of both live kinds.
+    pub fn both(&self) -> ByLive<Extreme>
+        ensures near { Within traffic_most result.normal.value × Within traffic_most result.overload.value }
+        ensures placed { (job : Job) → LoadsOf job self.now → TrafficPlaced self.now.q job normal result.normal × TrafficPlaced self.now.q job overload result.overload }
+    {
+        match self.edition {
+            Edition::First | Edition::Second | Edition::Third => self.highway(),
+            Edition::Fourth => self.rural(),
+        }
     }
 }

@@ -53,6 +53,7 @@ fn precedes(q: Question, values: &[i64; 10], k: usize, i: usize) -> bool
 }
 
 // Lane i's rank among n lanes.
+#[tactic(auto, unfolding(crate::specs::Sets::rank))]
 fn rank(q: Question, values: &[i64; 10], n: usize, i: usize) -> u32
     requires { (n ≤ 10) × (i < n) }
     ensures { result ≡ rank_of q n (value_at values.now) i }
@@ -168,6 +169,7 @@ struct Others {
 // ---- the lanes by rank
 
 // A question's HN values of n lanes, and the lanes' ranks.
+#[derive(Clone, Copy)]
 pub struct Ranking {
     pub q: Question,
     pub n: usize,

@@ -19,7 +19,6 @@ loop-m-init c =
     let last = c.centre_at-2.ensures in
     let h = div_mono p l in (
       omega arith,
-      omega arith,
       rw (c.better-best.ensures, first.here, last.here)
           (limits_tried a.q a.across.now a.d a.lo a.hi p l (subst (λ (x : Centre). Within transverse_most x.ordinate) first.here first.near) (subst (λ (x : Centre). Within transverse_most x.ordinate) last.here last.near)),
     )
@@ -39,14 +38,14 @@ loop-m-preserved c =
     let next = c.centre_at-in-loop-m.ensures in
     let b = ordinate_between a.d a.lo a.hi l.m c.requires.d_nonzero l.invariant.0 c.loop-m-test.true in (
       omega arith,
-      omega arith,
       rw (c.better-best-in-loop-m.ensures, next.here)
-          (next_tried a.q a.across.now a.d a.lo a.hi l.m l.best b.0 b.1 (subst (λ (x : Centre). Within transverse_most x.ordinate) next.here next.near) l.invariant.2),
+          (next_tried a.q a.across.now a.d a.lo a.hi l.m l.best b.0 b.1 (subst (λ (x : Centre). Within transverse_most x.ordinate) next.here next.near) l.invariant.1),
     )
 
 pub returns : goal.returns
 returns c =
     let l = c.loop-m in
     let a = c.args in
+    let h = div_mono c.requires.d_nonzero c.requires.lo_le_hi in
     let e : l.m ≡ a.hi / a.d + 1 = omega arith in
-    subst (λ (m : ℕ). BestBefore a.q a.across.now a.d a.lo a.hi m l.best) e l.invariant.2
+    subst (λ (m : ℕ). BestBefore a.q a.across.now a.d a.lo a.hi m l.best) e l.invariant.1

@@ -2,11 +2,8 @@ use mathlib.Core.Path.{◌≡◌, subst}
 use Prim.Native.Nat.{ℕ, ◌+◌}
 use native.Mathlib.Omega.{arith}
 use Rattle.sets.specs.Sets.{value_at, number_at, FirstAt}
-use Rattle.sets.proofs.Best.{BestTo, best_first, best_more, first_sum, normal_right}
+use Rattle.sets.proofs.Best.{BestTo, best_more, first_sum, normal_right}
 use Rattle.sets.proofs.Ranking.best_normal.Goals as goal
-
-pub loop-m-init : goal.loop-m-init
-loop-m-init c = best_first _ _ _ (λ j r a. a.value) c.normal_at-best.result c.normal_at-best.ensures
 
 pub loop-m-preserved : goal.loop-m-preserved
 loop-m-preserved c =

@@ -7,29 +7,16 @@ use lib.IntN.{ℤ}
 use mir.Syntax.{w64}
 use Rattle.exact.specs.Bounds.{Within}
 use Rattle.exact.proofs.Bounds.{within_le}
-use Rattle.exact.proofs.Held.{Kept, known, told}
+use Rattle.exact.proofs.Held.{Kept, known}
 use Rattle.sets.specs.Sets.{value_at, OverloadAt}
 use Rattle.magnitudes.specs.Magnitudes.{ho_lane_most, among}
 use Rattle.sets.proofs.Reduced.{among_most}
-use Rattle.sets.proofs.Best.{BestTo, best_first, best_more, held, held_sum, overload_right}
+use Rattle.sets.proofs.Best.{BestTo, best_more, held, held_sum, overload_right}
 use Rattle.sets.proofs.Ranking.best_overload.Goals as goal
 
 -- HO is near enough in every lane
 abbrev heavy : {n : ℕ} (ho : List ℤ) → ((i : ℕ) → i < n → Within (among n ho_lane_most) (value_at ho i)) → (i : ℕ) → i < n → Kept w64 ho_lane_most (value_at ho i)
 heavy {n} ho near i h = (_, known w64 (within_le (near i h) (among_most n ho_lane_most)) (lit< tt))
-
-pub overload_at-best-requires : goal.overload_at-best-requires
-overload_at-best-requires c = let some = c.args.self.now.fits.some in (some, (told (heavy c.args.ho c.requires 0 some).1).1)
-
-pub overload_at-requires : goal.overload_at-requires
-overload_at-requires c = (omega arith, (told (heavy c.args.ho c.requires c.loop-o.o (omega arith)).1).1)
-
-pub loop-o-init : goal.loop-o-init
-loop-o-init c =
-    let r = c.args.self.now in
-    let x = c.overload_at-best in
-    let v = value_at r.hn in
-    best_first _ _ _ (λ j r a. a.value) x.result (subst (λ (z : ℤ). OverloadAt r.n (held r.q v r.ranks 0) v z 0 x.result) (heavy c.args.ho c.requires 0 r.fits.some).1.is x.ensures)
 
 pub loop-o-preserved : goal.loop-o-preserved
 loop-o-preserved c =

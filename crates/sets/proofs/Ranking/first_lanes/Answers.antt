@@ -10,7 +10,7 @@ use Rattle.exact.proofs.Bounds.{within_le}
 use Rattle.magnitudes.specs.Magnitudes.{hn_lane_most, factored_most}
 use Rattle.sets.specs.Sets.{value_at, number_at}
 use Rattle.sets.proofs.Reduced.{values_near}
-use Rattle.sets.proofs.Groups.{Gathered, gathered_none, gathered_more, gathered_small, gathered_bits, gathered_near}
+use Rattle.sets.proofs.Groups.{Gathered, gathered_more, gathered_small, gathered_bits, gathered_near}
 use Rattle.sets.proofs.Ranking.first_lanes.Goals as goal
 
 pub joined-group-requires : goal.joined-group-requires
@@ -24,9 +24,6 @@ joined-group-requires c =
       gathered_near g factored_most 9 (λ k h. within_le (near k (omega arith)) (lit≤ tt)) (omega arith),
       within_le (told (known w64 (near l.i (omega arith)) (lit< tt))).1 (lit≤ tt),
     )
-
-pub loop-i-init : goal.loop-i-init
-loop-i-init c = gathered_none _ _
 
 pub loop-i-preserved : goal.loop-i-preserved
 loop-i-preserved c =
