@@ -1,2 +1,3 @@
 pub mod Tables
+pub mod InTables
 pub mod Governed

@@ -2,3 +2,4 @@
 #![tactic(auto)]
 
 pub mod state;
+pub mod tables;

@@ -12,11 +12,12 @@ ghost use Rattle.model.specs.RecordsWalked.{chain_length, walked_to};
 ghost use Rattle.model.specs.RuralBridges.{group_rows, group_row};
 ghost use Rattle.groups.specs.FactorLines.{line_row, line_alternative};
 ghost use Rattle.omissions.specs.ChainTables.{EffectsInReach};
-ghost use Rattle.rows.specs.Tables.{Fit, profile_in, effect_in, listed_in, row_in, rows_in};
+ghost use Rattle.rows.specs.InTables.{profile_in, effect_in, listed_in, row_in, rows_in};
 ghost use Rattle.rows.specs.Governed.{live_value, traffic_of, PairFits, LiveFits, laden_row, AlternativeRight, RowRight, better_row, later_rows, with_row, StateFound};
 
+use crate::tables::Tables;
 use exact::{ByQuestion, Question};
-use model::{ByLimit, ByLive, Edition, Governing, Header, ROW_WORDS, State};
+use model::{ByLimit, ByLive, Edition, Governing, ROW_WORDS, State};
 use omissions::{Chained, Walked};
 use words::item_word;
 
@@ -142,15 +143,6 @@ fn with_row(of_service: bool, sofar: ByLimit<State>, next: ByQuestion<Governing>
     }
 }
 
-// The sections of effects, rows and records, and the header that they go by.
-#[derive(Clone, Copy)]
-pub struct Tables<'a> {
-    pub effects: &'a [u8],
-    pub rows: &'a [u8],
-    pub records: &'a [u8],
-    pub head: Header,
-}
-
 impl<'a> Tables<'a> {
     // How many rows the job has.
     fn row_count(&self) -> usize
@@ -164,7 +156,7 @@ impl<'a> Tables<'a> {
 
     // Row r is of the service state.
     fn is_of_service(&self, r: usize) -> bool
-        requires { Fit self.now × (1 ≤ r) × (r ≤ rows_in self.now) }
+        requires { (1 ≤ r) × (r ≤ rows_in self.now) }
         ensures { (row_in self.now r).limit ≡ (if result then service else ultimate) }
     {
         match self.head.edition {
@@ -177,7 +169,7 @@ impl<'a> Tables<'a> {
 
     // The traffic of row r of the row section: its live factor times the value of its live kind.
     fn loaded(&self, live: ByLive<i64>, r: usize) -> i64
-        requires { Fit self.now × (1 ≤ r) × (r ≤ self.now.head.rows) × PairFits live }
+        requires { (1 ≤ r) × (r ≤ self.now.head.rows) × PairFits live }
         ensures { let row = listed_in self.now r in (result ≡ pos row.factor *ℤ live_value live row.live) × Within load_most result }
     {
         let kind = item_word::<ROW_WORDS>(self.rows, r, 1);
@@ -187,7 +179,7 @@ impl<'a> Tables<'a> {
 
     // Row r of the row section, and the length of its chain in records; it shows no k.
     fn listed(&self, live: ByQuestion<ByLive<i64>>, r: usize) -> Walked<Governing>
-        requires { Fit self.now × (1 ≤ r) × (r ≤ self.now.head.rows) × LiveFits live }
+        requires { (1 ≤ r) × (r ≤ self.now.head.rows) × LiveFits live }
         ensures best_value { (q : Question) → ((for_question q result.best).row ≡ r) × RowRight q (effect_in self.now) (listed_in self.now) (traffic_of live q) (for_question q result.best) }
         ensures length_value { result.length ≡ chain_length highway (listed_in self.now r) }
     {
@@ -210,7 +202,7 @@ impl<'a> Tables<'a> {
 
     // Row r of the job, and the length of its chain; a built-in row has no records.
     fn row(&self, live: ByQuestion<ByLive<i64>>, r: usize) -> Walked<Governing>
-        requires { Fit self.now × (1 ≤ r) × (r ≤ rows_in self.now) × LiveFits live }
+        requires { (1 ≤ r) × (r ≤ rows_in self.now) × LiveFits live }
         ensures best_value { (q : Question) → ((for_question q result.best).row ≡ r) × RowRight q (effect_in self.now) (row_in self.now) (traffic_of live q) (for_question q result.best) }
         ensures length_value { result.length ≡ chain_length (profile_in self.now) (row_in self.now r) }
     {
@@ -233,7 +225,7 @@ pub struct LimitStates {
 
 // The limit states of a job by the governing rows among all of its rows, and the records walked.
 pub fn states(tables: Tables, live: ByQuestion<ByLive<i64>>) -> LimitStates
-    requires { Fit tables × LiveFits live }
+    requires { LiveFits live }
     ensures state_found { (limit : Limit) → StateFound (effect_in tables.entry) (row_in tables.entry) (traffic_of live) limit (rows_in tables.entry) (for_limit limit result.states) }
     ensures walked_value { result.walked ≡ walked_to (profile_in tables.entry) (row_in tables.entry) (rows_in tables.entry) }
 {

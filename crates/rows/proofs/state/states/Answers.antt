@@ -4,7 +4,7 @@ use native.Mathlib.Omega.{arith}
 use Rattle.model.specs.Job.{Profile, Row}
 use Rattle.model.specs.RecordsWalked.{chain_length, walked_to}
 use Rattle.model.proofs.RecordsWalked.{walked_start, walked_next}
-use Rattle.rows.specs.Tables.{profile_in, effect_in, row_in, rows_in}
+use Rattle.rows.specs.InTables.{profile_in, effect_in, row_in, rows_in}
 use Rattle.rows.specs.Governed.{traffic_of}
 use Rattle.rows.proofs.Choosing.{by_limit, found_none, found_next}
 use Rattle.rows.proofs.RecordsWalked.{walked_near}
@@ -25,7 +25,7 @@ overflow_add-walked c =
     let t = c.args.tables in
     let i = c.loop-i.i in
     let last : i + 1 ≤ rows_in t = omega (arith, c.row_count-i-end.ensures) in
-    omega (arith, more (profile_in t) (row_in t) i c.loop-i.invariant.1 c.row-next.ensures.length_value, walked_near c.requires.0 (profile_in t) (i + 1) last)
+    omega (arith, more (profile_in t) (row_in t) i c.loop-i.invariant.1 c.row-next.ensures.length_value, walked_near t.fit (profile_in t) (i + 1) last)
 
 pub loop-i-preserved : goal.loop-i-preserved
 loop-i-preserved c =

@@ -1,6 +1,6 @@
 use mathlib.Core.Path.{◌≡◌}
 use Rattle.model.specs.RecordsWalked.{walked_to}
-use Rattle.rows.specs.Tables.{profile_in, effect_in, row_in, rows_in}
+use Rattle.rows.specs.InTables.{profile_in, effect_in, row_in, rows_in}
 use Rattle.rows.specs.Governed.{traffic_of}
 use Rattle.rows.proofs.Choosing.{Found}
 use Rattle.rows.proofs.state.states.Given as goal

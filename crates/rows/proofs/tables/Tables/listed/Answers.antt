@@ -8,16 +8,16 @@ use Rattle.exact.proofs.Extremes.{by_question}
 use Rattle.exact.proofs.Held.{got, told}
 use Rattle.model.specs.Decode.{terms_from}
 use Rattle.omissions.specs.Chained.{ChainRight}
-use Rattle.rows.specs.Tables.{effect_in, listed_in}
+use Rattle.rows.specs.InTables.{effect_in, listed_in}
 use Rattle.rows.specs.Governed.{live_value}
 use Rattle.rows.proofs.Loaded.{laden_is, one_alternative}
-use Rattle.rows.proofs.state.Tables.listed.Goals as goal
+use Rattle.rows.proofs.tables.Tables.listed.Goals as goal
 
 pub loaded-requires : goal.loaded-requires
-loaded-requires c = let p = c.requires in (p.0, p.1, p.2, p.3 Greatest)
+loaded-requires c = let p = c.requires in (p.0, p.1, p.2 Greatest)
 
 pub loaded-requires-2 : goal.loaded-requires-2
-loaded-requires-2 c = let p = c.requires in (p.0, p.1, p.2, p.3 Least)
+loaded-requires-2 c = let p = c.requires in (p.0, p.1, p.2 Least)
 
 pub laden_both-requires : goal.laden_both-requires
 laden_both-requires c =
