@@ -16,7 +16,7 @@ use Rattle.model.specs.Job.{rural, Live, Limit}
 use Rattle.model.specs.Decode.{influence_line, decode, dynamic_value, effect_at, row_count, row_of}
 use Rattle.model.specs.RecordsWalked.{walked_to, records_walked}
 use Rattle.model.specs.Lanes.{lanes}
-use Rattle.model.specs.declared.State.{State}
+use Rattle.model.specs.Answers.{State}
 use Rattle.model.specs.Dynamic.{dynamic_factor}
 use Rattle.model.specs.Format.{profile_of, effect_unit, ordinate_limit, header_of, spaces, across_layout, section_of}
 use Rattle.model.specs.declared.Edition.{Edition}

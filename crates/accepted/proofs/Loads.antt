@@ -9,8 +9,6 @@ use native.Mathlib.Omega.{arith}
 use lib.Dec.{ltb, lit<}
 use lib.IntN.{ℤ, pos, ◌*ℤ◌}
 use lib.Signed.{◌≤ℤ◌}
-use mir.Syntax.{w64}
-use mir.Val.{to_z, of_z}
 use borrow.Author.Tests.{lt-ltb}
 use Rattle.exact.specs.Bounds.{Within}
 use Rattle.exact.specs.Parts.{up}
@@ -18,7 +16,6 @@ use Rattle.exact.proofs.Bounds.{within_le, within_pos, within_mul}
 use Rattle.exact.proofs.Bridge.{by_test}
 use Rattle.exact.proofs.Extremes.{no_better_scale}
 use Rattle.exact.proofs.Ring.{◌⊗◌, lit, ◌≐◌, solve}
-use Rattle.exact.proofs.Held.{Room, known, told}
 use Rattle.exact.specs.declared.Question.{Question}
 use Rattle.exact.specs.declared.Question.TheVariants.{Greatest, Least}
 use Rattle.model.specs.Job.{Job}
@@ -35,53 +32,45 @@ use Rattle.model.specs.declared.Sense.TheVariants.{Raising, Lowering}
 use Rattle.model.proofs.Lanes.{no_second}
 use Rattle.model.proofs.Signs.{line_zero}
 use Rattle.line.specs.Sought.{SoughtRight, EffectRight}
-use Rattle.line.specs.declared.effect.Sought.{Sought}
-use Rattle.centres.specs.Spans.{AcrossFits, DecksOf, Spanned}
+use Rattle.line.specs.declared.sought.Sought.{Sought}
+use Rattle.centres.specs.Spans.{DecksOf}
+use Rattle.centres.specs.Spanned.{Spanned}
 use Rattle.centres.specs.declared.Across.{Across}
 use Rattle.lanes.specs.Entries.{LineEffectsFit, LoadsFit, other_in}
 use Rattle.lanes.specs.Loadings.{effects_of}
-use Rattle.lanes.specs.declared.traffic.Effects.{Effects}
+use Rattle.model.specs.declared.BySense.{BySense}
 use Rattle.accepted.specs.AccountParts.{Ready}
-
--- a kind's line effects go into 64 bits
-room : (kind : Kind) → Room w64 (line_most kind)
-room HN = lit< tt
-room HO = lit< tt
 
 -- five times a tenth of a line effect's most is half of it
 half : (kind : Kind) (n : ℕ) → 5 * (14000 * 500 + up (axle kind) * (500 + 500)) ≤ among n (line_most kind)
 half HN n = by_test (ltb n 6) (λ t. 43000000 ≤ (if t then 86000000 else 43000000)) (λ _. omega arith) (λ _. omega arith)
 half HO n = by_test (ltb n 6) (λ t. 51000000 ≤ (if t then 102000000 else 51000000)) (λ _. omega arith) (λ _. omega arith)
 
--- two line effects as a struct hands them on
-abbrev pub handed : (raising lowering : ℤ) → Effects
-handed x y = record { raising = to_z w64 (of_z w64 x); lowering = to_z w64 (of_z w64 y) }
-
 -- a kind's line effects by what is sought
 module _ (job : Job) (kind : Kind) {raising lowering : Sought} (above : SoughtRight job.line Raising raising) (below : SoughtRight job.line Lowering lowering)
-    {x y : ℤ} (a : EffectRight kind raising x) (b : EffectRight kind lowering y) where
-  raised : to_z w64 (of_z w64 x) ≡ line_effect job.line kind Raising
-  raised = (known w64 a.near (room kind)).is ∙ a.is job.line Raising above
+    {e : BySense ℤ} (a : EffectRight kind raising e.raising) (b : EffectRight kind lowering e.lowering) where
+  raised : e.raising ≡ line_effect job.line kind Raising
+  raised = a.is job.line Raising above
 
-  lowered : to_z w64 (of_z w64 y) ≡ line_effect job.line kind Lowering
-  lowered = (known w64 b.near (room kind)).is ∙ b.is job.line Lowering below
+  lowered : e.lowering ≡ line_effect job.line kind Lowering
+  lowered = b.is job.line Lowering below
 
-  pub effects_are : handed x y ≡ effects_of job kind
+  pub effects_are : e ≡ effects_of job kind
   effects_are = ap₂ (λ (x y : ℤ). record { raising = x; lowering = y }) raised lowered
 
-  pub effects_fit : LineEffectsFit (line_most kind) (handed x y)
+  pub effects_fit : LineEffectsFit (line_most kind) e
   effects_fit = record {
     up = subst (λ (z : ℤ). pos 0 ≤ℤ z) (sym raised) (line_zero job.line kind Raising);
     down = subst (λ (z : ℤ). z ≤ℤ pos 0) (sym lowered) (line_zero job.line kind Lowering);
-    raising = (told (known w64 a.near (room kind))).1;
-    lowering = (told (known w64 b.near (room kind))).1;
+    raising = a.near;
+    lowering = b.near;
   }
 
   -- near enough in every lane: with one carriageway as they are; with two times at most 5, and a tenth
-  module _ {across : Across} (on : Spanned job across) (fits : AcrossFits across) (reach : job.line.pieces * job.line.h ≤ 1000) (tenth : (job.second.width ≡ 0) ⊎ OrdinatesWithin 500 job.line) where
+  module _ {across : Across} (on : Spanned job across) (reach : job.line.pieces * job.line.h ≤ 1000) (tenth : (job.second.width ≡ 0) ⊎ OrdinatesWithin 500 job.line) where
     other_few : (i : ℕ) → other_in across.first across.second i ≤ 5
     other_few i =
-        by_test (ltb i across.first) (λ t. (if t then max 1 across.second else across.first) ≤ 5) (λ _. omega (arith, fits.second_few)) (λ _. fits.few)
+        by_test (ltb i across.first) (λ t. (if t then max 1 across.second else across.first) ≤ 5) (λ _. omega (arith, across.fits.second_few)) (λ _. across.fits.few)
 
     -- a multiple keeps its side of 0
     times_up : (m : ℕ) {z : ℤ} → pos 0 ≤ℤ z → pos 0 ≤ℤ (pos m *ℤ z)
@@ -97,14 +86,14 @@ module _ (job : Job) (kind : Kind) {raising lowering : Sought} (above : SoughtRi
         go : (job.second.width ≡ 0) ⊎ OrdinatesWithin 500 job.line → Within (among across.lanes (line_most kind)) (pos (other_in across.first across.second i) *ℤ z)
         go (inl none) =
             let e : across.second ≡ 0 = on.second ∙ no_second job none in
-            let below : i < across.first = omega (arith, fits.both) in
+            let below : i < across.first = omega (arith, across.fits.lanes) in
             let m : other_in across.first across.second i ≡ 1 = rw (lt-ltb i across.first below, e) refl in
-            let n : ltb across.lanes 6 ≡ true = lt-ltb across.lanes 6 (omega (arith, fits.both, fits.few)) in
+            let n : ltb across.lanes 6 ≡ true = lt-ltb across.lanes 6 (omega (arith, across.fits.lanes, across.fits.few)) in
             rw (m, n) (subst (Within (line_most kind)) (solve 1 (λ z. z ≐ lit 1 ⊗ z) tt z) near)
         go (inr near) =
             within_le (within_mul (within_pos 5 (other_few i)) (subst (Within (14000 * 500 + up (axle kind) * (500 + 500))) (sym is) (effect_near 500 job.line near reach kind sense))) (half kind across.lanes)
 
-    pub loads_fit : LoadsFit (line_most kind) across (handed x y)
+    pub loads_fit : LoadsFit (line_most kind) across e
     loads_fit = record {
       own = effects_fit;
       each = λ i h. record {

@@ -7,8 +7,8 @@ use mir.Val.{to_z, of_z}
 use Rattle.exact.specs.Bounds.{Within}
 use Rattle.exact.proofs.Held.{known, told}
 use Rattle.magnitudes.specs.Magnitudes.{traffic_most}
-use Rattle.rows.specs.declared.state.LiveBoth.{LiveBoth}
-use Rattle.rows.specs.declared.state.LiveValues.{LiveValues}
+use Rattle.exact.specs.declared.ByQuestion.{ByQuestion}
+use Rattle.model.specs.declared.ByLive.{ByLive}
 
 -- a number near enough, read back
 back : {z : ℤ} → Within traffic_most z → to_z w64 (of_z w64 z) ≡ z
@@ -17,10 +17,10 @@ back n = (known w64 n (lit< tt)).is
 pub near_back : {z : ℤ} → Within traffic_most z → Within traffic_most (to_z w64 (of_z w64 z))
 near_back n = (told (known w64 n (lit< tt))).1
 
-abbrev pub pair_of : ℤ → ℤ → LiveValues
+abbrev pub pair_of : ℤ → ℤ → ByLive ℤ
 pair_of x y = record { normal = x; overload = y }
 
-abbrev pub live_of : LiveValues → LiveValues → LiveBoth
+abbrev pub live_of : ByLive ℤ → ByLive ℤ → ByQuestion (ByLive ℤ)
 live_of g l = record { greatest = g; least = l }
 
 pair_back : {x y : ℤ} → Within traffic_most x → Within traffic_most y → pair_of (to_z w64 (of_z w64 x)) (to_z w64 (of_z w64 y)) ≡ pair_of x y

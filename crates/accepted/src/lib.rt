@@ -2,96 +2,123 @@
 #![tactic(auto)]
 
 ghost use Rattle.std.specs.Prelude.{◌≡◌};
+ghost use Rattle.exact.specs.Bounds.{Within};
+ghost use Rattle.magnitudes.specs.Magnitudes.{traffic_most};
+ghost use Rattle.model.specs.Answers.{for_limit};
 ghost use Rattle.model.specs.Decode.{decode};
-ghost use Rattle.model.specs.Job.{Limit};
+ghost use Rattle.model.specs.Job.{Limit, normal, overload};
 ghost use Rattle.model.specs.RecordsWalked.{records_walked};
-ghost use Rattle.line.specs.Sought.{SoughtRight, SensesRight};
-ghost use Rattle.rows.specs.Governed.{traffic_of, LiveFits, state_for, StateFound};
-ghost use Rattle.accepted.specs.AccountParts.{Ready, ValuesRight, PartsRight};
+ghost use Rattle.line.specs.Sought.{SoughtNear, SensesRight, kind_of, EffectRight};
+ghost use Rattle.centres.specs.Spanned.{Spanned};
+ghost use Rattle.lanes.specs.Loadings.{TrafficPlaced};
+ghost use Rattle.rows.specs.Governed.{traffic_of, LiveFits, StateFound};
+ghost use Rattle.accepted.specs.AccountParts.{Ready, TrafficFound, PartsRight};
 
-use exact::Question;
-use lanes::traffic;
-use lanes::traffic::Effects;
-use line::effect;
-use line::effect::{Senses, Sought};
-use line::kinds::{Hn, Ho};
-use model::{Account, Header, Part, Sense, Traffic};
+use centres::Across;
+use exact::{ByQuestion, Question};
+use lanes::traffic::{Effects, Loads};
+use line::kinds::Kind;
+use line::sought;
+use line::sought::Sought;
+use model::{Account, ByLive, BySense, Extreme, Header, Part, Traffic};
 use rows::state;
-use rows::state::{LimitStates, LiveBoth, LiveValues};
+use rows::state::LimitStates;
+use rows::tables::Tables;
 
 // What each sense seeks of the line.
-fn sought(job: &[u8], head: Header) -> Senses
+fn sought(job: &[u8], head: Header) -> BySense<Sought>
     requires { Ready job.now head }
     ensures { SensesRight (decode job.now).line result }
 {
-    effect::seek(
+    sought::seek(
         sections::section(job, head, Part::Line),
         head.h,
         head.pieces,
     )
 }
 
-// The traffic values of both live kinds, and the number of lanes of each carriageway.
-#[derive(Clone, Copy)]
-pub struct TrafficValues {
-    pub normal: Traffic,
-    pub overload: Traffic,
-    pub first: usize,
-    pub second: usize,
-}
-
-// The traffic values and the numbers of lanes, by what is sought of the line.
-fn values(job: &[u8], head: Header, raising: Sought, lowering: Sought) -> TrafficValues
-    requires ready { Ready job.now head }
-    requires sought_right { SoughtRight (decode job.now).line Sense.Raising raising × SoughtRight (decode job.now).line Sense.Lowering lowering }
-    ensures { ValuesRight (decode job.now) result }
+// What lies across the line.
+fn across(job: &[u8], head: Header) -> Across
+    requires { Ready job.now head }
+    ensures { Spanned (decode job.now) result }
 {
-    let hn = Effects {
-        raising: Hn::effect(raising),
-        lowering: Hn::effect(lowering),
-    };
-    let ho = Effects {
-        raising: Ho::effect(raising),
-        lowering: Ho::effect(lowering),
-    };
-    let dg = dynamic::factor(job, head, Question::Greatest);
-    let dl = dynamic::factor(job, head, Question::Least);
     let near = sections::section(job, head, Part::Transverse);
     let far = sections::section(job, head, Part::SecondTransverse);
-    let across = centres::across_of(near, far, head.width, head.second, head.spacing);
-    let edition = head.edition;
-    let most = traffic::both(Question::Greatest, edition, across, dg, hn, ho);
-    let lowest = traffic::both(Question::Least, edition, across, dl, hn, ho);
-    let ng = most.normal;
-    let nl = lowest.normal;
-    let og = most.overload;
-    let ol = lowest.overload;
-    let normal = Traffic {
-        greatest: ng,
-        least: nl,
+    centres::across_of(near, far, head.width, head.second, head.spacing)
+}
+
+// A kind's line effects.
+fn effects(kind: Kind, senses: BySense<Sought>) -> Effects
+    requires { SoughtNear senses.raising × SoughtNear senses.lowering }
+    ensures { EffectRight (kind_of kind) senses.raising result.raising × EffectRight (kind_of kind) senses.lowering result.lowering }
+{
+    Effects {
+        raising: kind.effect(senses.raising),
+        lowering: kind.effect(senses.lowering),
+    }
+}
+
+// A question's traffic values.
+fn values(
+    job: &[u8],
+    head: Header,
+    q: Question,
+    across: Across,
+    senses: BySense<Sought>,
+) -> ByLive<Extreme>
+    requires ready { Ready job.now head }
+    requires spanned { Spanned (decode job.now) across }
+    requires sought_right { SensesRight (decode job.now).line senses }
+    ensures near { Within traffic_most result.normal.value × Within traffic_most result.overload.value }
+    ensures placed { TrafficPlaced q (decode job.now) normal result.normal × TrafficPlaced q (decode job.now) overload result.overload }
+{
+    let dynamic = dynamic::factor(job, head, q);
+    let loads = Loads {
+        q,
+        edition: head.edition,
+        across,
+        dynamic,
+        hn: effects(Kind::Hn, senses),
+        ho: effects(Kind::Ho, senses),
     };
-    let overload = Traffic {
-        greatest: og,
-        least: ol,
-    };
-    TrafficValues {
-        normal,
-        overload,
-        first: across.first,
-        second: across.second,
+    loads.both()
+}
+
+// The traffic values of both live kinds.
+fn traffic(job: &[u8], head: Header, across: Across, senses: BySense<Sought>) -> ByLive<Traffic>
+    requires ready { Ready job.now head }
+    requires spanned { Spanned (decode job.now) across }
+    requires sought_right { SensesRight (decode job.now).line senses }
+    ensures normal { TrafficFound (decode job.now) normal result.normal }
+    ensures overload { TrafficFound (decode job.now) overload result.overload }
+{
+    let most = values(job, head, Question::Greatest, across, senses);
+    let lowest = values(job, head, Question::Least, across, senses);
+    ByLive {
+        normal: ByQuestion {
+            greatest: most.normal,
+            least: lowest.normal,
+        },
+        overload: ByQuestion {
+            greatest: most.overload,
+            least: lowest.overload,
+        },
     }
 }
 
 // Both limit states by the traffic values, and the records walked.
-fn limit_states(job: &[u8], head: Header, live: LiveBoth) -> LimitStates
+fn limit_states(job: &[u8], head: Header, live: ByQuestion<ByLive<i64>>) -> LimitStates
     requires { Ready job.now head × LiveFits live }
-    ensures state_found { (limit : Limit) → StateFound (decode job.now).effect (decode job.now).row (traffic_of live) limit (decode job.now).rows (state_for limit result) }
+    ensures state_found { (limit : Limit) → StateFound (decode job.now).effect (decode job.now).row (traffic_of live) limit (decode job.now).rows (for_limit limit result.states) }
     ensures walked_value { result.walked ≡ records_walked (decode job.now) }
 {
-    let effects = sections::section(job, head, Part::Effects);
-    let rows = sections::section(job, head, Part::Rows);
-    let records = sections::section(job, head, Part::Records);
-    state::states(effects, rows, records, head, live)
+    let tables = Tables {
+        effects: sections::section(job, head, Part::Effects),
+        rows: sections::section(job, head, Part::Rows),
+        records: sections::section(job, head, Part::Records),
+        head,
+    };
+    state::states(tables, live)
 }
 
 // The account of an accepted job; the patch bytes that its placements go with are not in it.
@@ -100,41 +127,28 @@ pub fn account(job: &[u8], head: Header) -> Account
     ensures { PartsRight (decode job.now) result }
 {
     let senses = sought(job, head);
-    let raising = senses.raising;
-    let lowering = senses.lowering;
-    let v = values(job, head, raising, lowering);
-    let normal = v.normal;
-    let overload = v.overload;
-    let ng = normal.greatest;
-    let nl = normal.least;
-    let og = overload.greatest;
-    let ol = overload.least;
-    let most = LiveValues {
-        normal: ng.value,
-        overload: og.value,
+    let across = across(job, head);
+    let traffic = traffic(job, head, across, senses);
+    let live = ByQuestion {
+        greatest: ByLive {
+            normal: traffic.normal.greatest.value,
+            overload: traffic.overload.greatest.value,
+        },
+        least: ByLive {
+            normal: traffic.normal.least.value,
+            overload: traffic.overload.least.value,
+        },
     };
-    let lowest = LiveValues {
-        normal: nl.value,
-        overload: ol.value,
-    };
-    let live = LiveBoth {
-        greatest: most,
-        least: lowest,
-    };
-    let states = limit_states(job, head, live);
-    let service = states.service;
-    let ultimate = states.ultimate;
-    let up = raising.position;
-    let down = lowering.position;
+    let found = limit_states(job, head, live);
     Account {
-        normal,
-        overload,
-        raising: up,
-        lowering: down,
-        service,
-        ultimate,
-        first: v.first,
-        second: v.second,
-        walked: states.walked,
+        normal: traffic.normal,
+        overload: traffic.overload,
+        raising: senses.raising.position,
+        lowering: senses.lowering.position,
+        service: found.states.service,
+        ultimate: found.states.ultimate,
+        first: across.first,
+        second: across.second,
+        walked: found.walked,
     }
 }
