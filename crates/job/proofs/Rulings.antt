@@ -23,6 +23,15 @@ use Rattle.sections.proofs.Sizes.{counted}
 use Rattle.job.specs.Rulings.{as_result}
 use Rattle.job.proofs.Frames.{too_short}
 
+-- a verdict by its result
+pub is_accepted : (v : Option Refusal) {u : Unit {0}} → Ok u ≡ as_result v → v ≡ None
+is_accepted None e = refl
+is_accepted (Some r) e = cc
+
+pub is_refused : (v : Option Refusal) {r : Refusal} → Err r ≡ as_result v → v ≡ Some r
+is_refused None e = cc
+is_refused (Some p) e = cc
+
 module _ (n : ℕ) {o f : Option ℕ} (found : o ≡ f) where
   -- a test that finds no place refuses nothing
   pub passed : {u : Unit {0}} → Ok u ≡ as_result (refuse n o None) → f ≡ None

@@ -2,14 +2,14 @@
 use mathlib.Core.Path.{◌≡◌, refl, sym, ◌∙◌, subst}
 use mathlib.Core.List.{List, ◌++◌}
 use Prim.Native.Nat.{ℕ}
-use Rattle.exact.specs.Questions.{NoBetter}
+use Rattle.exact.specs.Questions.{NoBetter, for_question}
 use Rattle.exact.specs.declared.Question.{Question}
 use Rattle.exact.specs.declared.Question.TheVariants.{Greatest, Least}
 use Rattle.model.specs.Job.{Job, Limit, Live, no_traffic, normal, overload}
 use Rattle.model.specs.Line.{patch_bytes}
 use Rattle.model.specs.Traffic.{traffic_value}
 use Rattle.model.specs.Arrangements.{arranged}
-use Rattle.model.specs.Answered.{position_of, traffic_in, extreme_of, state_in, reported_effect, PositionRight, TrafficRight, AccountRight}
+use Rattle.model.specs.Answered.{position_of, traffic_in, state_in, reported_effect, PositionRight, TrafficRight, AccountRight}
 use Rattle.model.specs.declared.Sense.{Sense}
 use Rattle.model.specs.declared.Extreme.{Extreme}
 use Rattle.model.specs.declared.Account.{Account}
@@ -44,7 +44,7 @@ module _ (job : Job) (signed : OneSigned job.line) (spaced : Spaced job) (patch 
 -- make a right account, with any buffer that starts with the patch bytes
 pub account_right : (job : Job) → OneSigned job.line → Spaced job → (rest : List ℕ) (a : Account) → PartsRight job a → AccountRight job (patch_bytes job.line ++ rest) a
 account_right job signed spaced rest a p = record {
-  traffic = λ q live h. traffic_right job signed spaced patch rest a refl p.positions q live (extreme_of q (traffic_in a live)) (p.traffic q live h);
+  traffic = λ q live h. traffic_right job signed spaced patch rest a refl p.positions q live (for_question q (traffic_in a live)) (p.traffic q live h);
   positions = p.positions;
   states = λ limit. state_right job patch a limit signed spaced (traffic_of (reported_live a)) (state_in a limit) (given limit) (p.states limit);
   first_count = p.first_count;
@@ -66,5 +66,5 @@ account_right job signed spaced rest a p = record {
     given : (limit : Limit) (q : Question) → Given job patch a limit signed spaced q (traffic_of (reported_live a) q)
     given limit q = record {
       values = values q;
-      gives = λ live h. placed_gives job signed spaced patch rest a refl p.positions q live (extreme_of q (traffic_in a live)) (p.traffic q live h);
+      gives = λ live h. placed_gives job signed spaced patch rest a refl p.positions q live (for_question q (traffic_in a live)) (p.traffic q live h);
     }
