@@ -6,10 +6,8 @@ ghost use Rattle.model.specs.Format.{bytes};
 ghost use Rattle.model.specs.declared.Part.TheVariants.{Records};
 ghost use Rattle.chains.specs.Linked.{Linked, EffectsTo};
 ghost use Rattle.sections.specs.Sized.{Sized};
-ghost use Rattle.limits.specs.Faults.{place_of};
 ghost use Rattle.job.specs.Defects.{is_defective, first_defective};
 
-use limits::Fault;
 use model::{Header, Part};
 
 // What may be wrong with a chain.
@@ -31,17 +29,17 @@ fn is_defective(records: &[u8], first: usize, count: usize, defect: Defect) -> b
 }
 
 // The first word of the first row whose chain has it, from the first row's on.
-pub(crate) fn first_row(s: &[u8], head: Header, defect: Defect) -> Fault
+pub(crate) fn first_row(s: &[u8], head: Header, defect: Defect) -> Option<usize>
     requires { Sized s.now head × (fault6 s.now ≡ None) }
-    ensures { place_of result ≡ first_defective defect s.now }
+    ensures { result ≡ first_defective defect s.now }
 {
     let rows = sections::section(s, head, Part::Rows);
     let records = sections::section(s, head, Part::Records);
     for i in 0..head.rows {
         let first = words::count(rows, model::ROW_WORDS * i + 3);
         if is_defective(records, first, head.records, defect) {
-            return Fault::At(model::ROW_WORDS * i);
+            return Some(model::ROW_WORDS * i);
         }
     }
-    Fault::Clear
+    None
 }

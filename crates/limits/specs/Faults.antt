@@ -1,15 +1,6 @@
--- The code's answer to a search for a fault as the place that the definitions give.
-use Rattle.std.specs.Prelude.{ℕ}
-use Rattle.std.specs.Prelude.{Option, None, Some}
+-- The parts that the search for a fault covers.
 use Rattle.model.specs.declared.Part.{Part}
 use Rattle.model.specs.declared.Part.TheVariants.{Head, Line, Transverse, SecondTransverse, Effects, Rows, Records}
-use Rattle.limits.specs.declared.Fault.{Fault}
-use Rattle.limits.specs.declared.Fault.TheVariants.{At, Clear}
-
--- the place at fault, if there is one
-abbrev pub place_of : Fault → Option ℕ
-place_of (At p) = Some p
-place_of Clear = None
 
 -- a part that follows the header
 abbrev pub AfterHeader : Part → Type 0

@@ -1,40 +1,28 @@
 // The lowest place at fault in a part after the header, item by item, by the limits of its row of the table. Places count from the part's first word.
 #![tactic(auto)]
 
-ghost use Rattle.std.specs.Prelude.{◌≡◌, ℕ, ◌+◌, ◌*◌, ◌≤◌, ◌<◌, pos, neg_ℤ, ltb, length, if◌then◌else◌};
+ghost use Rattle.std.specs.Prelude.{◌≡◌, ℕ, [], ◌∷◌, ◌+◌, ◌*◌, ◌≤◌, ◌<◌, pos, neg_ℤ, ltb, length, if◌then◌else◌};
 ghost use Rattle.std.specs.Prelude.{Some};
 ghost use Rattle.exact.specs.Bounds.{Within};
 ghost use Rattle.exact.specs.Choice.{between};
 ghost use Rattle.words.specs.Words.{word_at, wide};
-ghost use Rattle.words.specs.Fields.{misfit_from, item_from, misfit};
-ghost use Rattle.model.specs.Format.{profile_of, kilonewtons, newtons, effect_unit, is, ordinate_limit, across_layout, mark, effect_fields, format, size, bytes, effect_size, words};
+ghost use Rattle.words.specs.Fields.{within, misfit_from, item_from, misfit};
+ghost use Rattle.model.specs.Format.{profile_of, kilonewtons, newtons, effect_unit, is, ordinate_limit, mark, effect_fields, format, size, bytes, effect_size, words};
 ghost use Rattle.model.specs.declared.Part.TheVariants.{Line, Transverse, Effects, Rows, Records};
 ghost use Rattle.sections.specs.Sized.{Counted};
-ghost use Rattle.limits.specs.Faults.{place_of, AfterHeader};
+ghost use Rattle.limits.specs.Faults.{AfterHeader};
 
 use model::{Edition, Header, Part};
-
-// A place at fault, or none.
-#[derive(Clone, Copy)]
-pub enum Fault {
-    At(usize),
-    Clear,
-}
 
 // Word p is from lo to hi, both counted in.
 pub fn in_range(s: &[u8], p: usize, lo: usize, hi: usize) -> bool
     requires { 4 * p + 4 ≤ length s.now }
     ensures { result ≡ between (pos lo) (pos hi) (word_at s.now p) }
 {
-    let x = words::word(s, p);
-    if x < 0 {
-        return false;
+    match usize::try_from(words::word(s, p)) {
+        Ok(n) => lo <= n && n <= hi,
+        Err(_) => false,
     }
-    let n = x as usize;
-    if lo <= n {
-        return n <= hi;
-    }
-    false
 }
 
 // Word p is from -m to m.
@@ -46,13 +34,10 @@ fn within(s: &[u8], p: usize, m: i64) -> bool
 }
 
 // The field of an item at fault: field j unless its word is admitted, else a later one.
-pub fn field(j: usize, admitted: bool, later: Fault) -> Fault
-    ensures { place_of result ≡ (if admitted then place_of later else Some j) }
+pub fn field(j: usize, admitted: bool, later: Option<usize>) -> Option<usize>
+    ensures { result ≡ (if admitted then later else Some j) }
 {
-    if admitted {
-        return later;
-    }
-    Fault::At(j)
+    if admitted { later } else { Some(j) }
 }
 
 // The most of a line's ordinates in an edition.
@@ -66,33 +51,29 @@ pub fn ordinate_limit(edition: Edition) -> i64
 }
 
 // A piece: left and right ordinate.
-fn piece_misfit(s: &[u8], head: Header, i: usize) -> Fault
+fn piece_misfit(s: &[u8], head: Header, i: usize) -> Option<usize>
     requires { bytes Line * i + bytes Line ≤ length s.now }
-    ensures { place_of result ≡ misfit_from 0 (format head Line).fields (item_from s.now (size Line * i) i) }
+    ensures { result ≡ misfit_from 0 (format head Line).fields (item_from s.now (size Line * i) i) }
 {
     let p = model::PIECE_WORDS * i;
-    let edition = head.edition;
-    let most = ordinate_limit(edition);
-    let right = field(1, within(s, p + 1, most), Fault::Clear);
+    let most = ordinate_limit(head.edition);
+    let right = field(1, within(s, p + 1, most), None);
     field(0, within(s, p, most), right)
 }
 
 // A transverse ordinate of either carriageway.
-fn transverse_misfit(s: &[u8], i: usize) -> Fault
+fn transverse_misfit(s: &[u8], i: usize) -> Option<usize>
     requires { bytes Transverse * i + bytes Transverse ≤ length s.now }
-    ensures { (w g : ℕ) → place_of result ≡ misfit_from 0 (across_layout w g).fields (item_from s.now (size Transverse * i) i) }
+    ensures { result ≡ misfit_from 0 (within 1000 ∷ []) (item_from s.now (size Transverse * i) i) }
 {
-    field(0, within(s, i, 1000), Fault::Clear)
+    field(0, within(s, i, 1000), None)
 }
 
 // The mark of a rural bridge's effect i: 1 for the first three, 2 for the others.
 fn rural_mark(i: usize) -> usize
     ensures { result ≡ (if ltb i 3 then 1 else 2) }
 {
-    if i < 3 {
-        return 1;
-    }
-    2
+    if i < 3 { 1 } else { 2 }
 }
 
 // The mark of effect i, at word p.
@@ -100,8 +81,7 @@ fn mark_fits(s: &[u8], head: Header, i: usize, p: usize) -> bool
     requires { 4 * p + 4 ≤ length s.now }
     ensures { (first : ℕ) → result ≡ mark (profile_of head.edition) (item_from s.now first i) (word_at s.now p) }
 {
-    let edition = head.edition;
-    match edition {
+    match head.edition {
         Edition::First | Edition::Second | Edition::Third => in_range(s, p, 1, 2),
         Edition::Fourth => {
             let m = rural_mark(i);
@@ -111,12 +91,12 @@ fn mark_fits(s: &[u8], head: Header, i: usize, p: usize) -> bool
 }
 
 // An effect in kN·U: value, mark.
-fn kilonewton_effect_misfit(s: &[u8], head: Header, i: usize) -> Fault
+fn kilonewton_effect_misfit(s: &[u8], head: Header, i: usize) -> Option<usize>
     requires { 4 * (effect_size kilonewtons * i + effect_size kilonewtons) ≤ length s.now }
-    ensures { place_of result ≡ misfit_from 0 (effect_fields kilonewtons (profile_of head.edition)) (item_from s.now (effect_size kilonewtons * i) i) }
+    ensures { result ≡ misfit_from 0 (effect_fields kilonewtons (profile_of head.edition)) (item_from s.now (effect_size kilonewtons * i) i) }
 {
     let p = model::EFFECT_WORDS * i;
-    let mark = field(1, mark_fits(s, head, i, p + 1), Fault::Clear);
+    let mark = field(1, mark_fits(s, head, i, p + 1), None);
     field(0, within(s, p, 1000000000), mark)
 }
 
@@ -129,22 +109,21 @@ fn newton_value_fits(s: &[u8], p: usize) -> bool
 }
 
 // An effect in N·U: value in two halves, at fault at the low one, and mark.
-fn newton_effect_misfit(s: &[u8], head: Header, i: usize) -> Fault
+fn newton_effect_misfit(s: &[u8], head: Header, i: usize) -> Option<usize>
     requires { 4 * (effect_size newtons * i + effect_size newtons) ≤ length s.now }
-    ensures { place_of result ≡ misfit_from 0 (effect_fields newtons (profile_of head.edition)) (item_from s.now (effect_size newtons * i) i) }
+    ensures { result ≡ misfit_from 0 (effect_fields newtons (profile_of head.edition)) (item_from s.now (effect_size newtons * i) i) }
 {
     let p = model::NEWTON_EFFECT_WORDS * i;
-    let mark = field(2, mark_fits(s, head, i, p + 2), Fault::Clear);
+    let mark = field(2, mark_fits(s, head, i, p + 2), None);
     field(0, newton_value_fits(s, p), mark)
 }
 
 // An effect, as its edition writes it.
-fn effect_misfit(s: &[u8], head: Header, i: usize) -> Fault
+fn effect_misfit(s: &[u8], head: Header, i: usize) -> Option<usize>
     requires { 4 * (effect_size (effect_unit head.edition) * i + effect_size (effect_unit head.edition)) ≤ length s.now }
-    ensures { place_of result ≡ misfit_from 0 (format head Effects).fields (item_from s.now (effect_size (effect_unit head.edition) * i) i) }
+    ensures { result ≡ misfit_from 0 (format head Effects).fields (item_from s.now (effect_size (effect_unit head.edition) * i) i) }
 {
-    let edition = head.edition;
-    match edition {
+    match head.edition {
         Edition::First | Edition::Fourth => kilonewton_effect_misfit(s, head, i),
         Edition::Second | Edition::Third => newton_effect_misfit(s, head, i),
     }
@@ -155,42 +134,39 @@ fn live_limit(s: &[u8], p: usize) -> usize
     requires { 4 * p + 4 ≤ length s.now }
     ensures { result ≡ (if is 0 (word_at s.now p) then 0 else 3000) }
 {
-    if words::word(s, p) == 0 {
-        return 0;
-    }
-    3000
+    if words::word(s, p) == 0 { 0 } else { 3000 }
 }
 
 // A row: limit state, live kind, live factor, first record.
-fn row_misfit(s: &[u8], head: Header, i: usize) -> Fault
+fn row_misfit(s: &[u8], head: Header, i: usize) -> Option<usize>
     requires { bytes Rows * i + bytes Rows ≤ length s.now }
-    ensures { place_of result ≡ misfit_from 0 (format head Rows).fields (item_from s.now (size Rows * i) i) }
+    ensures { result ≡ misfit_from 0 (format head Rows).fields (item_from s.now (size Rows * i) i) }
 {
     let p = model::ROW_WORDS * i;
-    let first = field(3, in_range(s, p + 3, 0, head.records), Fault::Clear);
+    let first = field(3, in_range(s, p + 3, 0, head.records), None);
     let factor = field(2, in_range(s, p + 2, 0, live_limit(s, p + 1)), first);
     let live = field(1, in_range(s, p + 1, 0, 2), factor);
     field(0, in_range(s, p, 1, 2), live)
 }
 
 // A record: effect, factor, next record.
-fn record_misfit(s: &[u8], head: Header, i: usize) -> Fault
+fn record_misfit(s: &[u8], head: Header, i: usize) -> Option<usize>
     requires { bytes Records * i + bytes Records ≤ length s.now }
-    ensures { place_of result ≡ misfit_from 0 (format head Records).fields (item_from s.now (size Records * i) i) }
+    ensures { result ≡ misfit_from 0 (format head Records).fields (item_from s.now (size Records * i) i) }
 {
     let p = model::RECORD_WORDS * i;
-    let next = field(2, in_range(s, p + 2, 0, head.records), Fault::Clear);
+    let next = field(2, in_range(s, p + 2, 0, head.records), None);
     let factor = field(1, in_range(s, p + 1, 0, 3000), next);
     field(0, in_range(s, p, 1, head.effects), factor)
 }
 
 // The field at fault of item i of a part after the header.
-fn item_misfit(s: &[u8], head: Header, part: Part, i: usize) -> Fault
+fn item_misfit(s: &[u8], head: Header, part: Part, i: usize) -> Option<usize>
     requires { AfterHeader part × (i < (format head part).items) × (4 * words head part ≤ length s.now) }
-    ensures { place_of result ≡ misfit_from 0 (format head part).fields (item_from s.now (length (format head part).fields * i) i) }
+    ensures { result ≡ misfit_from 0 (format head part).fields (item_from s.now (length (format head part).fields * i) i) }
 {
     match part {
-        Part::Head => Fault::Clear,
+        Part::Head => None,
         Part::Line => piece_misfit(s, head, i),
         Part::Transverse => transverse_misfit(s, i),
         Part::SecondTransverse => transverse_misfit(s, i),
@@ -201,15 +177,14 @@ fn item_misfit(s: &[u8], head: Header, part: Part, i: usize) -> Fault
 }
 
 // The lowest place at fault in a part after the header, given as its own bytes.
-pub fn misfit(s: &[u8], head: Header, part: Part) -> Fault
+pub fn misfit(s: &[u8], head: Header, part: Part) -> Option<usize>
     requires { AfterHeader part × Counted head × (4 * words head part ≤ length s.now) }
-    ensures { place_of result ≡ misfit (format head part) s.now }
+    ensures { result ≡ misfit (format head part) s.now }
 {
     for i in 0..sections::items(head, part) {
-        let fault = item_misfit(s, head, part, i);
-        if let Fault::At(j) = fault {
-            return Fault::At(sections::item_words(head, part) * i + j);
+        if let Some(j) = item_misfit(s, head, part, i) {
+            return Some(sections::item_words(head, part) * i + j);
         }
     }
-    Fault::Clear
+    None
 }

@@ -10,10 +10,8 @@ ghost use Rattle.model.specs.Format.{format, bytes};
 ghost use Rattle.model.specs.declared.Part.TheVariants.{Line};
 ghost use Rattle.model.specs.Refusals.{crosses, signs};
 ghost use Rattle.sections.specs.Sized.{Counted};
-ghost use Rattle.limits.specs.Faults.{place_of};
 ghost use Rattle.ordinates.specs.Lines.{AllWithin, NoneCrosses};
 
-use limits::Fault;
 use model::{Header, Part};
 
 // 0 for a word from -m to m, else 1.
@@ -21,13 +19,7 @@ fn outside(x: i32, m: i32) -> u32
     requires { Within 1000000 m }
     ensures { (result ≤ 2) × (result ≡ 0 → between (neg_ℤ m) m x ≡ true) }
 {
-    if x < -m {
-        return 1;
-    }
-    if m < x {
-        return 1;
-    }
-    0
+    if x < -m || m < x { 1 } else { 0 }
 }
 
 // How many of a section's words are outside -m to m.
@@ -43,62 +35,50 @@ fn strays(s: &[u8], m: i32) -> u32
 }
 
 // The lowest place of an ordinate outside its limits in a line's own bytes, sought only where there is one.
-pub fn misfit(s: &[u8], head: Header) -> Fault
+pub fn misfit(s: &[u8], head: Header) -> Option<usize>
     requires { Counted head × (length s.now ≡ bytes Line * head.pieces) }
-    ensures { place_of result ≡ misfit (format head Line) s.now }
+    ensures { result ≡ misfit (format head Line) s.now }
 {
-    let edition = head.edition;
-    if strays(s, limits::ordinate_limit(edition) as i32) == 0 {
-        return Fault::Clear;
+    if strays(s, limits::ordinate_limit(head.edition) as i32) == 0 {
+        None
+    } else {
+        limits::misfit(s, head, Part::Line)
     }
-    limits::misfit(s, head, Part::Line)
 }
 
 // One is above 0 and the other below.
 fn crosses(x: i64, y: i64) -> bool
     ensures { result ≡ crosses x y }
 {
-    if 0 < x {
-        return y < 0;
-    }
-    if x < 0 {
-        return 0 < y;
-    }
-    false
+    (0 < x && y < 0) || (x < 0 && 0 < y)
 }
 
 // The first piece of a line's own bytes with one ordinate above 0 and one below.
-fn first_crossing(s: &[u8], pieces: usize) -> Fault
+fn first_crossing(s: &[u8], pieces: usize) -> Option<usize>
     requires { bytes Line * pieces ≤ length s.now }
-    ensures { place_of result ≡ misfit (signs pieces) s.now }
+    ensures { result ≡ misfit (signs pieces) s.now }
 {
     for i in 0..pieces {
         let p = model::PIECE_WORDS * i;
         if crosses(words::word(s, p), words::word(s, p + 1)) {
-            return Fault::At(p);
+            return Some(p);
         }
     }
-    Fault::Clear
+    None
 }
 
 // 1 above 0, else 0.
 fn above(x: i32) -> u32
     ensures { result ≡ (if lt_z (pos 0) x then 1 else 0) }
 {
-    if 0 < x {
-        return 1;
-    }
-    0
+    if 0 < x { 1 } else { 0 }
 }
 
 // 1 below 0, else 0.
 fn below(x: i32) -> u32
     ensures { result ≡ (if lt_z x (pos 0) then 1 else 0) }
 {
-    if x < 0 {
-        return 1;
-    }
-    0
+    if x < 0 { 1 } else { 0 }
 }
 
 // 0 for a piece that does not cross zero.
@@ -122,12 +102,13 @@ fn crossings(s: &[u8], pieces: usize) -> u32
 }
 
 // Of a line's own bytes: a piece with one ordinate above 0 and one below, sought only where there is one.
-pub fn crossing(s: &[u8], pieces: usize) -> Fault
+pub fn crossing(s: &[u8], pieces: usize) -> Option<usize>
     requires { (bytes Line * pieces ≤ length s.now) × (pieces ≤ 1000) }
-    ensures { place_of result ≡ misfit (signs pieces) s.now }
+    ensures { result ≡ misfit (signs pieces) s.now }
 {
     if crossings(s, pieces) == 0 {
-        return Fault::Clear;
+        None
+    } else {
+        first_crossing(s, pieces)
     }
-    first_crossing(s, pieces)
 }

@@ -4,25 +4,16 @@ ghost use Rattle.words.specs.Words.{word_at};
 ghost use Rattle.model.specs.Format.{edition_of, second_width, header_of, format, bytes, words, section};
 ghost use Rattle.model.specs.declared.Edition.TheVariants.{Third};
 ghost use Rattle.model.specs.declared.Part.TheVariants.{Head};
+ghost use Rattle.model.specs.declared.Header.{Header};
 
 use model::{Edition, Header};
 
-// The edition that word 0 names.
+// The edition that word 0 names, the first where it names none.
 fn edition(s: &[u8]) -> Edition
     requires { bytes Head ≤ length s.now }
     ensures { result ≡ edition_of (word_at s.now 0) }
 {
-    let number = words::word(s, 0);
-    if number == model::RURAL_EDITION {
-        return Edition::Fourth;
-    }
-    if number == model::THIRD_EDITION {
-        return Edition::Third;
-    }
-    if number == model::SECOND_EDITION {
-        return Edition::Second;
-    }
-    Edition::First
+    Edition::try_from(words::word(s, 0)).unwrap_or(Edition::First)
 }
 
 // The second carriageway's width; 0 where the edition has one carriageway.
@@ -57,11 +48,10 @@ pub fn read(s: &[u8]) -> Header
     }
 }
 
-// How many words it has, by its edition.
-pub fn size(head: Header) -> usize
-    ensures { (result ≡ length (format head Head).fields) × (result ≤ 13) }
+// How many words an edition's header has.
+pub fn size(edition: Edition) -> usize
+    ensures { ((head : Header) → head.edition ≡ edition → result ≡ length (format head Head).fields) × (result ≤ 13) }
 {
-    let edition = head.edition;
     match edition {
         Edition::First => model::HEADER_WORDS,
         Edition::Second => model::SECOND_HEADER_WORDS,
@@ -75,5 +65,5 @@ pub fn section(s: &[u8], head: Header) -> &[u8]
     requires { 4 * words head Head ≤ length s.now }
     ensures { result.now ≡ section s.now head Head }
 {
-    &s[0..4 * size(head)]
+    &s[0..4 * size(head.edition)]
 }

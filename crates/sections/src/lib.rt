@@ -13,8 +13,7 @@ use model::{Edition, Header, Part};
 fn effect_words(head: Header) -> usize
     ensures { (result ≡ effect_size (effect_unit head.edition)) × (result ≤ 3) }
 {
-    let edition = head.edition;
-    match edition {
+    match head.edition {
         Edition::First | Edition::Fourth => model::EFFECT_WORDS,
         Edition::Second | Edition::Third => model::NEWTON_EFFECT_WORDS,
     }
@@ -25,7 +24,7 @@ pub fn item_words(head: Header, part: Part) -> usize
     ensures { (result ≡ length (format head part).fields) × (result ≤ 13) }
 {
     match part {
-        Part::Head => header::size(head),
+        Part::Head => header::size(head.edition),
         Part::Line => model::PIECE_WORDS,
         Part::Transverse => 1,
         Part::SecondTransverse => 1,
@@ -47,10 +46,7 @@ fn spaces(w: usize, g: usize) -> usize
 fn far_edge(w: usize) -> usize
     ensures { (result ≡ (if eqb w 0 then 0 else 1)) × (result ≤ 1) }
 {
-    if w == 0 {
-        return 0;
-    }
-    1
+    if w == 0 { 0 } else { 1 }
 }
 
 // The number of items.

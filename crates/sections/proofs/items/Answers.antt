@@ -1,14 +1,8 @@
 use mathlib.Core.Path.{◌∙◌, sym, ap₂}
 use Prim.Native.Nat.{◌+◌}
 use native.Mathlib.Omega.{arith}
-use borrow.Author.Tests.{ne_eqb}
 use Rattle.sections.proofs.Sizes.{across_is}
 use Rattle.sections.proofs.items.Goals as goal
-
-pub returns-in-Transverse : goal.returns-in-Transverse
-returns-in-Transverse c =
-    let m = c.spaces.ensures in
-    rw (c.in-Transverse.is, ne_eqb c.args.head.width 0 (λ z. omega (arith, c.requires.wide))) (omega arith)
 
 pub returns-in-SecondTransverse : goal.returns-in-SecondTransverse
 returns-in-SecondTransverse c =

@@ -11,8 +11,3 @@ returns-in-Return c =
     let a = c.args in
     ap not c.ends.ensures ∙ sym (returns_test _ _ _ (stays c.requires.0 c.requires.2 c.requires.3))
     ∙ ap (λ (d : Defect). is_defective d a.records.now a.count a.first) (sym c.in-Return.is)
-
-pub returns-in-Repeat : goal.returns-in-Repeat
-returns-in-Repeat c =
-    let a = c.args in
-    c.names_twice.ensures ∙ ap (λ (d : Defect). is_defective d a.records.now a.count a.first) (sym c.in-Repeat.is)

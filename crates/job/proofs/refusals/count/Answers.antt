@@ -3,7 +3,6 @@ use Rattle.std.specs.Prelude.{Some}
 use mathlib.Core.List.{List}
 use Rattle.model.specs.declared.Header.{Header}
 use Prim.Native.Nat.{ℕ, ◌/◌}
-use native.Mathlib.Omega.{arith}
 use lib.ListN.{length}
 use borrow.Author.Tests.{eq-eqb, ne_eqb}
 use Rattle.model.specs.Format.{header_of, words_due}
@@ -18,11 +17,8 @@ pub returns-then-s-due : goal.returns-then-s-due
 unfolding fault3
 returns-then-s-due c = let b = c.args.s.now in rw (eq-eqb (length b / 4) (words_due (header_of b)) (c.if-s-due.true ∙ due c.args.s.now c.words_due-due.ensures.0 c.requires.0)) refl
 
-pub returns : goal.returns
+pub returns-else-s-due : goal.returns-else-s-due
 unfolding fault3
-returns c =
+returns-else-s-due c =
     let b = c.args.s.now in
     rw (ne_eqb (length b / 4) (words_due (header_of b)) (λ e. c.if-s-due.false (e ∙ sym (due c.args.s.now c.words_due-due.ensures.0 c.requires.0)))) (ap Some (due c.args.s.now c.words_due-due.ensures.0 c.requires.0))
-
-pub overflow_cast-result : goal.overflow_cast-result
-overflow_cast-result c = omega (arith, c.words_due-due.ensures.1)

@@ -10,7 +10,6 @@ use Rattle.model.specs.Refusals.{fault2}
 use Rattle.model.specs.declared.Header.{Header}
 use Rattle.model.specs.declared.Part.TheVariants.{Head}
 use Rattle.model.proofs.Sections.{section_length}
-use Rattle.limits.specs.Faults.{place_of}
 use Rattle.words.proofs.Fits.{item_below}
 use Rattle.model.proofs.Verdict.{header_short}
 use Rattle.job.proofs.Faults.{or_nothing, one_item, in_front}
@@ -25,18 +24,18 @@ found s {head = head} e f own =
     ∙ sym (or_nothing _ ∙ in_front _ ∙ one_item (format head Head).fields _)
     ∙ ap (λ (head : Header). fault_in s head (Head ∷ [])) own
 
-pub header_misfit-own-requires : goal.header_misfit-own-requires
-header_misfit-own-requires c =
+pub header_misfit-requires : goal.header_misfit-requires
+header_misfit-requires c =
     let h = c.requires.1 in
     omega (arith, ap length c.section.ensures, section_length c.args.s.now c.args.head Head (omega arith))
 
-pub returns-in-At : goal.returns-in-At
-returns-in-At c = sym (ap place_of c.in-At.is) ∙ found c.args.s.now c.header_misfit-own.ensures c.section.ensures c.requires.0
+pub returns-in_err-place : goal.returns-in_err-place
+returns-in_err-place c = c.from_residual.ensures ∙ sym c.in_err-place.was ∙ found c.args.s.now c.header_misfit.ensures c.section.ensures c.requires.0
 
-pub returns-in-Clear : goal.returns-in-Clear
-returns-in-Clear c = sym (ap place_of c.in-Clear.is) ∙ found c.args.s.now c.header_misfit-own.ensures c.section.ensures c.requires.0
+pub returns : goal.returns
+returns c = sym c.in_ok-place.was ∙ found c.args.s.now c.header_misfit.ensures c.section.ensures c.requires.0
 
 pub overflow_cast-result : goal.overflow_cast-result
 overflow_cast-result c =
-    let own = item_below (format c.args.head Head).fields 0 (item_from c.section.result.now 0 0) _ (sym c.header_misfit-own.ensures ∙ ap place_of c.in-At.is) in
+    let own = item_below (format c.args.head Head).fields 0 (item_from c.section.result.now 0 0) _ (sym c.header_misfit.ensures ∙ c.in_ok-place.was) in
     omega (arith, own, header_short c.args.head)

@@ -1,8 +1,7 @@
 use mathlib.Core.Path.{sym, ◌∙◌, ap}
 use native.Mathlib.Omega.{arith}
 use lib.ListN.{length}
-use Rattle.words.specs.Fields.{moved, misfit}
-use Rattle.model.specs.Format.{format, start, section_of}
+use Rattle.model.specs.Format.{format}
 use Rattle.model.specs.declared.Header.{Header}
 use Rattle.model.specs.declared.Part.TheVariants.{Line}
 use Rattle.words.proofs.Fits.{below}
@@ -16,12 +15,3 @@ misfit-own-requires c =
 pub in_job-requires : goal.in_job-requires
 in_job-requires c =
     (counts c.requires, λ p e. below (format c.args.head Line) _ p (sym c.misfit-own.ensures ∙ e))
-
-pub returns : goal.returns
-returns c =
-    c.in_job.ensures
-    ∙ ap (moved (start c.args.head Line)) (c.misfit-own.ensures ∙ ap (misfit (format c.args.head Line)) c.section.ensures)
-    ∙ ap (λ (h : Header). moved (start h Line) (misfit (format h Line) (section_of c.args.s.now Line))) c.requires.own
-
-pub section-requires : goal.section-requires
-section-requires c = c.requires

@@ -1,11 +1,13 @@
-use mathlib.Core.Path.{sym, ◌∙◌, ap₂}
-use Rattle.exact.specs.Choice.{or_else}
+use mathlib.Core.Path.{◌∙◌}
+use borrow.Author.Rules.{rules}
+use Rattle.model.specs.Format.{fault, header_of}
 use Rattle.model.specs.Refusals.{fault6}
-use Rattle.job.proofs.Faults.{or_nothing}
+use Rattle.model.specs.declared.Part.TheVariants.{Effects, Rows, Records}
+use Rattle.job.proofs.Faults.{asked_next, three_parts}
 use Rattle.job.proofs.refusals.table.Goals as goal
 
 pub returns : goal.returns
 unfolding fault6
 returns c =
-    c.or_else-2.ensures
-    ∙ ap₂ or_else c.fault.ensures (c.or_else.ensures ∙ ap₂ or_else c.fault-2.ensures (c.fault-3.ensures ∙ sym (or_nothing _)))
+    let f = fault c.args.s.now (header_of c.args.s.now) in
+    asked_next _ (f Records) (asked_next _ (f Rows) c.fault.ensures c.or_else.ensures (search rules)) c.or_else-2.ensures (search rules) ∙ three_parts (f Effects) (f Rows) (f Records)

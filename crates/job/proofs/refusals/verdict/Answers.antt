@@ -1,36 +1,63 @@
-use mathlib.Core.Path.{◌≡◌, sym, ◌∙◌, ap, subst}
-use native.Mathlib.Omega.{arith}
+use Rattle.model.specs.Refusals.{job_verdict, job_tests}
 use Rattle.model.proofs.Verdict.{has_header}
-use Rattle.job.specs.Rulings.{finding_of, Passed}
-use Rattle.job.proofs.Rulings.{begins, ruled, frame_refuses, refuses, goes_on}
+use Rattle.sections.proofs.Sizes.{is_sized}
+use Rattle.job.proofs.Rulings.{passed, refused, header_there, counts_there}
 use Rattle.job.proofs.refusals.verdict.Goals as goal
 
-pub returns-in-At : goal.returns-in-At
-returns-in-At c = frame_refuses _ _ (sym c.frame-first.ensures ∙ ap finding_of c.in-At.is)
+pub returns-in_err-refuse : goal.returns-in_err-refuse
+unfolding job_verdict job_tests
+returns-in_err-refuse c = refused 1 c.frame.ensures _ c.in_err-refuse.ensures c.from_residual.ensures.1
 
-pub read-head-requires : goal.read-head-requires
-read-head-requires c = has_header _ (sym c.frame-first.ensures ∙ ap finding_of c.in_default.is)
+pub returns-in_err-refuse-2 : goal.returns-in_err-refuse-2
+unfolding job_verdict job_tests
+returns-in_err-refuse-2 c = rw (passed 1 c.frame.ensures c.in_ok-refuse.ensures) (refused 2 c.limits.ensures _ c.in_err-refuse-2.ensures c.from_residual-in_err-refuse-2.ensures.1)
 
-pub loop-step-init : goal.loop-step-init
-loop-step-init c = (begins c.read-head.ensures (sym c.frame-first.ensures ∙ ap finding_of c.in_default.is), omega arith)
+pub returns-in_err-refuse-3 : goal.returns-in_err-refuse-3
+unfolding job_verdict job_tests
+returns-in_err-refuse-3 c = rw (passed 1 c.frame.ensures c.in_ok-refuse.ensures, passed 2 c.limits.ensures c.in_ok-refuse-2.ensures) (refused 11 c.width.ensures _ c.in_err-refuse-3.ensures c.from_residual-in_err-refuse-3.ensures.1)
 
-pub number-requires : goal.number-requires
-number-requires c = (c.loop-step.invariant.0.first, omega arith)
+pub returns-in_err-refuse-4 : goal.returns-in_err-refuse-4
+unfolding job_verdict job_tests
+returns-in_err-refuse-4 c = rw (passed 1 c.frame.ensures c.in_ok-refuse.ensures, passed 2 c.limits.ensures c.in_ok-refuse-2.ensures, passed 11 c.width.ensures c.in_ok-refuse-3.ensures) (refused 3 c.count.ensures _ c.in_err-refuse-4.ensures c.from_residual-in_err-refuse-4.ensures.1)
 
-pub returns-in-At-fault : goal.returns-in-At-fault
-returns-in-At-fault c =
-    let inv = c.loop-step.invariant in
-    let is = c.number.ensures.1 c.args.s.now in
-    ruled _ _ c.number.ensures.0 (refuses inv.0 is _ (sym c.found-fault.ensures ∙ ap finding_of c.in-At-fault.is))
+pub returns-in_err-refuse-5 : goal.returns-in_err-refuse-5
+unfolding job_verdict job_tests
+returns-in_err-refuse-5 c = rw (passed 1 c.frame.ensures c.in_ok-refuse.ensures, passed 2 c.limits.ensures c.in_ok-refuse-2.ensures, passed 11 c.width.ensures c.in_ok-refuse-3.ensures, passed 3 c.count.ensures c.in_ok-refuse-4.ensures) (refused 4 c.ordinates.ensures _ c.in_err-refuse-5.ensures c.from_residual-in_err-refuse-5.ensures.1)
 
-pub loop-step-preserved : goal.loop-step-preserved
-loop-step-preserved c = (goes_on c.loop-step.invariant.0 (sym c.found-fault.ensures ∙ ap finding_of c.in_default-fault.is), omega arith)
+pub returns-in_err-refuse-6 : goal.returns-in_err-refuse-6
+unfolding job_verdict job_tests
+returns-in_err-refuse-6 c = rw (passed 1 c.frame.ensures c.in_ok-refuse.ensures, passed 2 c.limits.ensures c.in_ok-refuse-2.ensures, passed 11 c.width.ensures c.in_ok-refuse-3.ensures, passed 3 c.count.ensures c.in_ok-refuse-4.ensures, passed 4 c.ordinates.ensures c.in_ok-refuse-5.ensures) (refused 5 c.signs.ensures _ c.in_err-refuse-6.ensures c.from_residual-in_err-refuse-6.ensures.1)
 
-pub by_chains-requires : goal.by_chains-requires
-by_chains-requires c = let e : c.loop-step.step ≡ 7 = omega arith in subst (Passed _ _) e c.loop-step.invariant.0
+pub returns-in_err-refuse-7 : goal.returns-in_err-refuse-7
+unfolding job_verdict job_tests
+returns-in_err-refuse-7 c = rw (passed 1 c.frame.ensures c.in_ok-refuse.ensures, passed 2 c.limits.ensures c.in_ok-refuse-2.ensures, passed 11 c.width.ensures c.in_ok-refuse-3.ensures, passed 3 c.count.ensures c.in_ok-refuse-4.ensures, passed 4 c.ordinates.ensures c.in_ok-refuse-5.ensures, passed 5 c.signs.ensures c.in_ok-refuse-6.ensures) (refused 6 c.table.ensures _ c.in_err-refuse-7.ensures c.from_residual-in_err-refuse-7.ensures.1)
 
 pub returns : goal.returns
-returns c = c.by_chains.ensures
+unfolding job_verdict job_tests
+returns c = rw (passed 1 c.frame.ensures c.in_ok-refuse.ensures, passed 2 c.limits.ensures c.in_ok-refuse-2.ensures, passed 11 c.width.ensures c.in_ok-refuse-3.ensures, passed 3 c.count.ensures c.in_ok-refuse-4.ensures, passed 4 c.ordinates.ensures c.in_ok-refuse-5.ensures, passed 5 c.signs.ensures c.in_ok-refuse-6.ensures, passed 6 c.table.ensures c.in_ok-refuse-7.ensures) c.chains.ensures
 
-pub found-fault-requires : goal.found-fault-requires
-found-fault-requires c = (c.loop-step.invariant.0, omega arith)
+pub read-head-requires : goal.read-head-requires
+read-head-requires c = has_header _ (passed 1 c.frame.ensures c.in_ok-refuse.ensures)
+
+pub limits-requires : goal.limits-requires
+limits-requires c = (c.read-head.ensures, header_there c.args.s.now c.read-head.ensures (passed 1 c.frame.ensures c.in_ok-refuse.ensures))
+
+pub width-requires : goal.width-requires
+width-requires c =
+    let own = c.read-head.ensures in
+    (own, counts_there c.args.s.now own (passed 2 c.limits.ensures c.in_ok-refuse-2.ensures), header_there c.args.s.now own (passed 1 c.frame.ensures c.in_ok-refuse.ensures))
+
+pub count-requires : goal.count-requires
+count-requires c = (c.read-head.ensures, counts_there c.args.s.now c.read-head.ensures (passed 2 c.limits.ensures c.in_ok-refuse-2.ensures))
+
+pub ordinates-requires : goal.ordinates-requires
+ordinates-requires c = is_sized c.args.s.now c.read-head.ensures (passed 1 c.frame.ensures c.in_ok-refuse.ensures) (passed 2 c.limits.ensures c.in_ok-refuse-2.ensures) (passed 3 c.count.ensures c.in_ok-refuse-4.ensures)
+
+pub signs-requires : goal.signs-requires
+signs-requires c = is_sized c.args.s.now c.read-head.ensures (passed 1 c.frame.ensures c.in_ok-refuse.ensures) (passed 2 c.limits.ensures c.in_ok-refuse-2.ensures) (passed 3 c.count.ensures c.in_ok-refuse-4.ensures)
+
+pub table-requires : goal.table-requires
+table-requires c = is_sized c.args.s.now c.read-head.ensures (passed 1 c.frame.ensures c.in_ok-refuse.ensures) (passed 2 c.limits.ensures c.in_ok-refuse-2.ensures) (passed 3 c.count.ensures c.in_ok-refuse-4.ensures)
+
+pub chains-requires : goal.chains-requires
+chains-requires c = (is_sized c.args.s.now c.read-head.ensures (passed 1 c.frame.ensures c.in_ok-refuse.ensures) (passed 2 c.limits.ensures c.in_ok-refuse-2.ensures) (passed 3 c.count.ensures c.in_ok-refuse-4.ensures), passed 6 c.table.ensures c.in_ok-refuse-7.ensures)

@@ -1,4 +1,4 @@
-use mathlib.Core.Path.{◌≡◌, ap}
+use mathlib.Core.Path.{◌≡◌, refl, ap}
 use Prim.Native.Nat.{ℕ, ◌*◌, ◌-◌}
 use native.Mathlib.Omega.{arith}
 use lib.ListN.{take, drop}
@@ -9,5 +9,5 @@ use Rattle.sections.proofs.header.section.Goals as goal
 pub returns : goal.returns
 unfolding section
 returns c =
-    let e : 4 * c.size.result - 0 ≡ 4 * words c.args.head Head = omega (arith, c.size.ensures.0) in
+    let e : 4 * c.size.result - 0 ≡ 4 * words c.args.head Head = omega (arith, c.size.ensures.0 c.args.head refl) in
     ap (λ (k : ℕ). take k (drop 0 c.args.s.now)) e

@@ -1,4 +1,0 @@
-use Rattle.headers.proofs.width_fits.Goals as goal
-
-pub returns : goal.returns
-returns c = c.in_range.ensures
