@@ -212,6 +212,14 @@ fn of_both(q: Question, given: Best, turned: Best, length: usize) -> TrainExtrem
     exact::better(q, as_given, extreme_of(Way::Turned, turned, length))
 }
 
+// How far greatest is above least.
+fn difference(greatest: i64, least: i64) -> i64
+    requires { Within train_most greatest × Within train_most least }
+    ensures { result ≡ greatest -ℤ least }
+{
+    greatest - least
+}
+
 // The rating of a train.
 pub fn rating(line: &[u8], h: u32, n: usize, mode: Mode, train: &[Axle]) -> Rating
     requires { Ratable line.now h n train.now }
@@ -236,6 +244,6 @@ pub fn rating(line: &[u8], h: u32, n: usize, mode: Mode, train: &[Axle]) -> Rati
     Rating {
         greatest,
         least,
-        difference: greatest.value - least.value,
+        difference: difference(greatest.value, least.value),
     }
 }

@@ -1,15 +1,16 @@
-use mathlib.Core.Path.{sym, ◌∙◌, subst}
+use mathlib.Core.Path.{sym, ◌∙◌, ap₂, subst}
 use mathlib.Core.List.{List}
 use Prim.Native.Nat.{ℕ, ◌+◌, ◌*◌, ◌≤◌}
 use native.Mathlib.Omega.{arith}
 use lib.Dec.{lit<}
+use lib.IntN.{◌-ℤ◌}
 use mir.Syntax.{w64}
 use Rattle.exact.specs.Questions.{for_question}
 use Rattle.exact.specs.declared.ByQuestion.{ByQuestion}
 use Rattle.exact.specs.declared.Question.{Question}
 use Rattle.exact.specs.declared.Question.TheVariants.{Greatest, Least}
 use Rattle.exact.proofs.Extremes.{by_question}
-use Rattle.exact.proofs.Held.{known, minus!, minus}
+use Rattle.exact.proofs.Held.{known, told, back}
 use Rattle.model.specs.Decode.{influence_line}
 use Rattle.model.specs.declared.{Axle.Axle, Mode.Mode, Way.Way, Way.TheVariants.AsGiven, Way.TheVariants.Turned}
 use Rattle.stands.specs.TrainFits.{Ratable}
@@ -51,8 +52,8 @@ of_both-least-requires c =
     let short = r.ensures.1.short in
     (few a.mode a.line.now a.h a.n t able Least AsGiven r.result.length c.one_way-as_given.result short (given Least), few a.mode a.line.now a.h a.n t able Least Turned r.result.length c.one_way-the_other.result short (turned Least), short)
 
-pub overflow_sub-result : goal.overflow_sub-result
-overflow_sub-result c =
+pub difference-requires : goal.difference-requires
+difference-requires c =
     let a = c.args in
     let t = a.train.now in
     let able = c.requires in
@@ -62,7 +63,7 @@ overflow_sub-result c =
     let l = r.result.length in
     let most = known w64 (worst_near a.mode Greatest a.line.now a.h a.n t able l _ _ _ (given Greatest) (turned Greatest) c.of_both-greatest.ensures) (lit< tt) in
     let least = known w64 (worst_near a.mode Least a.line.now a.h a.n t able l _ _ _ (given Least) (turned Least) c.of_both-least.ensures) (lit< tt) in
-    minus! most least (lit< tt)
+    ((told most).1, (told least).1)
 
 -- both extremes, right and within reach
 pub returns : goal.returns
@@ -78,5 +79,5 @@ returns c =
     let least = known w64 (worst_near a.mode Least a.line.now a.h a.n t able l _ _ _ (given Least) (turned Least) c.of_both-least.ensures) (lit< tt) in
     record {
       extremes = by_question _ (worst_right a.mode Greatest a.line.now a.h a.n t able l _ _ _ (given Greatest) (turned Greatest) c.of_both-greatest.ensures) (worst_right a.mode Least a.line.now a.h a.n t able l _ _ _ (given Least) (turned Least) c.of_both-least.ensures);
-      difference = (minus most least (lit< tt)).is;
+      difference = back w64 c.difference.type_inv c.difference.ensures ∙ ap₂ ◌-ℤ◌ most.is least.is;
     }
