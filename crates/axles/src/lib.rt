@@ -4,15 +4,12 @@
 ghost use Rattle.std.specs.Prelude.{◌≡◌};
 ghost use Rattle.axles.specs.Gathering.{gathered_of};
 
-use model::Axle;
-
-// How many axles a train has at most.
-pub const MOST: usize = 12;
+use model::{Axle, MOST_AXLES};
 
 // The first twelve axles of a train, and how many it has.
 #[derive(Clone, Copy)]
 pub struct Gathered {
-    pub axles: [Axle; MOST],
+    pub axles: [Axle; MOST_AXLES],
     pub count: usize,
 }
 
@@ -20,8 +17,8 @@ pub struct Gathered {
 pub fn gather(train: &[Axle]) -> Gathered
     ensures { result ≡ gathered_of train.now }
 {
-    let mut axles = [Axle { load: 0, at: 0 }; MOST];
-    let first = train.len().min(MOST);
+    let mut axles = [Axle { load: 0, at: 0 }; MOST_AXLES];
+    let first = train.len().min(MOST_AXLES);
     axles[..first].copy_from_slice(&train[..first]);
     Gathered {
         axles,

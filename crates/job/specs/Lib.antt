@@ -1,2 +1,1 @@
 pub mod Defects
-pub mod Rulings

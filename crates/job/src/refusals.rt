@@ -4,12 +4,11 @@ ghost use Rattle.std.specs.Prelude.{None, Some};
 ghost use Rattle.words.specs.Words.{word_at};
 ghost use Rattle.words.specs.Fields.{moved};
 ghost use Rattle.model.specs.Format.{is, edition_number, header_of, bytes, words, start, fault};
-ghost use Rattle.model.specs.Refusals.{fault1, fault2, fault3, fault4, fault5, fault6, fault7, fault8, fault11, row_fault, ◌finds◌, refuse, first_refusal, job_verdict, highway_verdict};
+ghost use Rattle.model.specs.Refusals.{fault1, fault2, fault3, fault4, fault5, fault6, fault7, fault8, fault11, row_fault, ◌finds◌, refuse, first_refusal, as_result, job_verdict, highway_verdict};
 ghost use Rattle.model.specs.declared.Part.TheVariants.{Head, Line};
 ghost use Rattle.sections.specs.Sized.{Counted, Sized};
 ghost use Rattle.limits.specs.Faults.{AfterHeader};
 ghost use Rattle.job.specs.Defects.{chain_passes};
-ghost use Rattle.job.specs.Rulings.{as_result};
 
 use crate::defects;
 use crate::defects::Defect;

@@ -8,6 +8,7 @@ pub mod Editions
 pub mod EditionOne
 pub mod EditionThree
 pub mod Verdict
+pub mod Rulings
 pub mod Dynamic
 pub mod HeaderLimits
 pub mod LineLimits

@@ -3,12 +3,12 @@
 use Rattle.std.specs.Prelude.{ℕ, ◌+◌, ◌-◌, ◌*◌, ◌/◌, ◌≤◌, ◌<◌, ◌≡◌, ◌&&◌, List, if◌then◌else◌}
 use lib.{IntN.ℤ, IntN.pos, IntN.◌*ℤ◌, ListN.length, Dec.leb, Dec.ltb}
 use Rattle.exact.specs.Bounds.{Within}
-use Rattle.exact.specs.{Ranges.sum_to, Questions.extreme, declared.Question.Question, declared.Question.TheVariants.Greatest, declared.Question.TheVariants.Least}
+use Rattle.exact.specs.{Ranges.sum_to, Questions.extreme, declared.Question.Question}
 use Rattle.words.specs.Words.{word_at}
 use Rattle.model.specs.{Job.InfluenceLine, Format.size, Trains.axle_at, Trains.train_length, Trains.distance, Trains.counted, Trains.train_effect, Trains.train_station, declared.Part.TheVariants.Line, declared.Axle.Axle, declared.Way.Way, declared.Mode.Mode}
 use Rattle.magnitudes.specs.Magnitudes.{train_most}
 use Rattle.pair.specs.PairPlaces.{side_at}
-use Rattle.stands.specs.declared.{Spaced.Spaced, Sums.Sums, Best.Best, Bests.Bests}
+use Rattle.stands.specs.declared.{Spaced.Spaced, Best.Best}
 
 -- a train one way round: each axle's distance from the leftmost, and the train's length, in pieces
 pub record SpacedRight (way : Way) (h : ℕ) (t : List Axle) (r : Spaced) : Type 0 where
@@ -31,16 +31,6 @@ end_ordinate s n less x end = if leb less x && ltb (x - less) n then word_at s (
 -- what the first c axles count at an end of run m
 unfoldable pub run_sum : Mode → Question → List ℕ → (n : ℕ) → Spaced → (m end c : ℕ) → ℤ
 run_sum mode q s n r m end c = sum_to c (λ i. pos (axle_at r.axles i).load *ℤ counted mode q (end_ordinate s n r.length (m + (axle_at r.axles i).at) end))
-
--- a question's sum
-abbrev pub sum_for : Question → Sums → ℤ
-sum_for Greatest s = s.greatest
-sum_for Least s = s.least
-
--- a question's best place
-abbrev pub best_in : Question → Bests → Best
-best_in Greatest b = b.greatest
-best_in Least b = b.least
 
 -- the best of places 0 .. m, where place p counts f p
 pub record BestOf (q : Question) (f : ℕ → ℤ) (m : ℕ) (b : Best) : Type 0 where

@@ -1,6 +1,5 @@
 -- What the search asks of a train and a line.
-use Rattle.std.specs.Prelude.{ℕ, ◌≤◌, ◌<◌, ◌≡◌, List, length}
-use Rattle.std.specs.Prelude.{None}
+use Rattle.std.specs.Prelude.{ℕ, ◌≤◌, ◌<◌, ◌≡◌, List, length, None}
 use Rattle.words.specs.Fields.{misfit}
 use Rattle.model.specs.Refusals.{signs}
 use Rattle.model.specs.Trains.{axle_at, train_length}
@@ -9,7 +8,7 @@ use Rattle.pair.specs.LineFits.{LineFits}
 
 -- a train whose axles are within their limits, none past the last
 pub record TrainFits (t : List Axle) : Type 0 where
-  pub Some : 1 ≤ length t
+  pub some : 1 ≤ length t
   pub few : length t ≤ 12
   pub load : (i : ℕ) → i < length t → (axle_at t i).load ≤ 400
   pub at : (i : ℕ) → i < length t → (axle_at t i).at ≤ train_length t

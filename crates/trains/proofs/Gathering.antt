@@ -2,13 +2,12 @@
 use mathlib.Core.Path.{◌≡◌, refl, sym, ◌∙◌, ap}
 use Rattle.std.specs.Prelude.{Some}
 use mathlib.Core.List.{List}
-use Prim.Native.Nat.{ℕ, zero, suc, ◌≤◌, ◌<◌}
+use Prim.Native.Nat.{ℕ, ◌≤◌, ◌<◌}
 use native.Mathlib.Decide.{dec_le}
 use native.Mathlib.Omega.{arith}
 use borrow.Author.Tests.{le-leb, lt-leb}
 use lib.ListN.{length, take, length-take, length-replicate}
-use lib.Seq.{get_or-take}
-use Rattle.model.specs.Trains.{axle_fits, train_fault}
+use Rattle.model.specs.Trains.{train_fault}
 use Rattle.model.specs.declared.Axle.{Axle}
 use Rattle.model.proofs.TrainLimits.{no_axles, many_axles}
 use Rattle.axles.specs.Gathering.{gathered_of}
@@ -41,12 +40,6 @@ none_given h g l = sym (no_axles h (train_of g) (short (train_few g (omega arith
 
 pub too_many : (h : ℕ) (g : Gathered) → 12 < g.count → Some 0 ≡ train_fault h (train_of g)
 too_many h g l = sym (many_axles h (train_of g) (omega (arith, train_many g l)))
-
--- an axle fits there as in the array
-pub taken_fits : (h : ℕ) (a : List Axle) (n i : ℕ) → i < n → axle_fits h (take n a) i ≡ axle_fits h a i
-unfolding axle_fits
-taken_fits h a n zero l = rw (get_or-take n a zero (record { load = 0; at = 0 }) l) refl
-taken_fits h a n (suc i) l = rw (get_or-take n a (suc i) (record { load = 0; at = 0 }) l, get_or-take n a i (record { load = 0; at = 0 }) (omega arith)) refl
 
 -- it has the fault of the train given
 pub gathered_fault : (h : ℕ) (t : List Axle) → train_fault h (train_of (gathered_of t)) ≡ train_fault h t

@@ -8,15 +8,14 @@ use lib.ListN.{length, drop}
 use Rattle.model.specs.Format.{header_of, section_of}
 use Rattle.model.specs.Decode.{decode, influence_line}
 use Rattle.model.specs.Line.{patch_bytes}
-use Rattle.model.specs.Refusals.{job_verdict, verdict}
+use Rattle.model.specs.Refusals.{job_verdict, verdict, as_result}
 use Rattle.model.specs.Answered.{Answered, refused, accepted, AccountRight}
 use Rattle.model.specs.declared.Account.{Account}
 use Rattle.model.specs.declared.Header.{Header}
 use Rattle.model.specs.declared.Part.TheVariants.{Line}
 use Rattle.model.proofs.Verdict.{clear, has_header, job_refuses, short_refused, long_accepted}
 use Rattle.sections.proofs.Sizes.{counts}
-use Rattle.job.specs.Rulings.{as_result}
-use Rattle.job.proofs.Rulings.{is_refused, is_accepted}
+use Rattle.model.proofs.Rulings.{is_refused, is_accepted}
 use Rattle.pair.specs.LineFits.{LineFits}
 use Rattle.line.proofs.Fitting.{fits_fewer}
 use Rattle.accepted.specs.AccountParts.{Ready, PartsRight}

@@ -1,7 +1,7 @@
 use mathlib.Core.Path.{refl, sym, ◌∙◌}
 use Rattle.model.specs.Refusals.{fault7}
 use Rattle.job.proofs.Linked.{none_returns, repeats_alone}
-use Rattle.job.proofs.Rulings.{passed, refused}
+use Rattle.model.proofs.Rulings.{passed, refused}
 use Rattle.job.proofs.refusals.chains.Goals as goal
 
 pub returns-in_default : goal.returns-in_default

@@ -4,7 +4,7 @@ use lib.Dec.{lit<}
 use mir.Syntax.{w64}
 use Rattle.exact.proofs.Held.{got, lit, eq_yes}
 use Rattle.sections.proofs.Tests.{is_failed}
-use Rattle.job.specs.Rulings.{as_result}
+use Rattle.model.specs.Refusals.{as_result}
 use Rattle.job.proofs.Rulings.{short_refused, rural_refused, highway_only}
 use Rattle.job.proofs.refusals.highway_verdict.Goals.{then-s-via-then-s, then-s-via-else-s+then-word-eq-RURAL_EDITION}
 use Rattle.job.proofs.refusals.highway_verdict.Goals as goal

@@ -1,7 +1,8 @@
 use Rattle.model.specs.Refusals.{job_verdict, job_tests}
 use Rattle.model.proofs.Verdict.{has_header}
 use Rattle.sections.proofs.Sizes.{is_sized}
-use Rattle.job.proofs.Rulings.{passed, refused, header_there, counts_there}
+use Rattle.model.proofs.Rulings.{passed, refused}
+use Rattle.job.proofs.Rulings.{header_there, counts_there}
 use Rattle.job.proofs.refusals.verdict.Goals as goal
 
 pub returns-in_err-refuse : goal.returns-in_err-refuse
