@@ -12,9 +12,6 @@ use Rattle.lanes.proofs.Given.{some_lanes}
 use Rattle.lanes.proofs.Placements.{traffic_placed}
 use Rattle.lanes.proofs.traffic.Loads.found.Goals as goal
 
-pub returns-clause-near : goal.returns-clause-near
-returns-clause-near c = subst (Within traffic_most) (sym (back w64 c.value.type_inv refl)) c.value.ensures.1
-
 pub returns-clause-placed : goal.returns-clause-placed
 returns-clause-placed c job live f =
     let s = c.args.self.now in
