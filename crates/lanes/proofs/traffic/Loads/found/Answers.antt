@@ -1,12 +1,10 @@
-use mathlib.Core.Path.{◌≡◌, refl, sym, ◌∙◌, ap, subst}
+use mathlib.Core.Path.{◌≡◌, ◌∙◌, ap}
 use lib.Dec.{lit<}
 use lib.IntN.{ℤ}
 use mir.Syntax.{w64}
 use mir.Val.{to_z, of_z}
-use Rattle.exact.specs.Bounds.{Within}
 use Rattle.exact.proofs.Held.{known, back}
 use Rattle.model.specs.Traffic.{effect_of}
-use Rattle.magnitudes.specs.Magnitudes.{traffic_most}
 use Rattle.lanes.specs.Entries.{chosen_in}
 use Rattle.lanes.proofs.Given.{some_lanes}
 use Rattle.lanes.proofs.Placements.{traffic_placed}
