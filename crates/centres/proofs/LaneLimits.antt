@@ -10,7 +10,7 @@ use native.Mathlib.Omega.{arith}
 use lib.IntN.{ℤ, pos}
 use lib.ListN.{get_or}
 use lib.Dec.{eqb}
-use borrow.Author.Tests.{eqb-false, lt-ltb, le-ltb}
+use borrow.Author.Tests.{lt-ltb, le-ltb}
 use lib.Signed.{◌≤ℤ◌}
 use Rattle.exact.specs.Questions.{NoBetter, extreme}
 use Rattle.exact.specs.declared.Question.{Question}
@@ -119,13 +119,6 @@ module _ {near far : List ℕ} {d : Decks} (fit : DecksFit near far d) where
       let m = lane_count_lem d.second in
       let beyond : d.beyond ≤ 5 = rw fit.beyond (by_test (eqb d.second 0) (λ t. (if t then 0 else lane_count d.second) ≤ 5) (λ _. omega arith) (λ _. m.1)) in
       (omega (arith, fit.lanes), omega (arith, fit.lanes), beyond)
-
-  -- a lane beyond the median has a carriageway there
-  pub second_there : 0 < d.beyond → (0 < d.second) × (d.beyond ≡ lane_count d.second)
-  second_there h =
-      by_test (eqb d.second 0) (λ t. d.beyond ≡ (if t then 0 else lane_count d.second) → (0 < d.second) × (d.beyond ≡ lane_count d.second))
-      (λ _ e. absurd (omega arith))
-      (λ f e. let other = eqb-false d.second 0 f in (omega arith, e)) fit.beyond
 
   module _ {job : Job} (of : DecksOf near far d.width d.second d.g job) where
     pub first_lanes : d.lanes ≡ lanes_of job.deck

@@ -12,11 +12,11 @@ use lib.Dec.{ltb, eqb}
 use lib.Pow.{le_ones, lt_of_le_ones}
 use borrow.Author.Tests.{le-ltb, eq-eqb, ne_eqb}
 use Rattle.exact.specs.Bounds.{Within}
-use Rattle.exact.specs.Questions.{NoBetter, beats, extreme, extreme_over}
+use Rattle.exact.specs.Questions.{NoBetter, beats, better_by, extreme, extreme_over}
 use Rattle.exact.specs.Ranges.{sum_to, count_to}
 use Rattle.exact.specs.declared.Question.{Question}
 use Rattle.exact.proofs.Bridge.{by_test}
-use Rattle.exact.proofs.Extremes.{no_better_refl, no_better_trans, no_better_antisym, beats_yes, beats_no, extreme_bounds, extreme_least}
+use Rattle.exact.proofs.Extremes.{no_better_refl, no_better_trans, no_better_antisym, better_by_ind, better_by_left, better_by_right, extreme_bounds, extreme_least}
 use Rattle.exact.proofs.Ranges.{sum_cong, sum_one, count_cong}
 use Rattle.exact.proofs.Weights.{count_false, count_le, count_with, sum_near}
 use Rattle.model.specs.Job.{highway, normal, overload}
@@ -43,16 +43,17 @@ module _ (q : Question) (At : ℕ → Loading → Type 0) (f : ℕ → ℤ) (giv
   own : (j : ℕ) (r : Loading) → At j r → NoBetter q (f j) r.value
   own j r a = subst (NoBetter q (f j)) (sym (gives j r a)) (no_better_refl q (f j))
 
-  pub best_first : (r : Loading) → At 0 r → BestTo q At f 1 r
-  best_first r a = record { at = 0; below = omega arith; is = a; unbeaten = λ j h. let z : 0 ≡ j = omega arith in subst (λ (j : ℕ). NoBetter q (f j) r.value) z (own 0 r a) }
+  -- what is compared of a loading
+  abbrev sum : Loading → ℤ
+  sum r = r.value
 
-  pub best_more : (m : ℕ) (x y r : Loading) → BestTo q At f m x → At m y → r ≡ (if beats q y.value x.value then y else x) → BestTo q At f (m + 1) r
+  pub best_more : (m : ℕ) (x y r : Loading) → BestTo q At f m x → At m y → r ≡ better_by sum q x y → BestTo q At f (m + 1) r
   best_more m x y r b a is =
       let l = b.below in
       subst (BestTo q At f (m + 1)) (sym is)
-      (by_test (beats q y.value x.value) (λ t. BestTo q At f (m + 1) (if t then y else x))
-      (λ t. record { at = m; below = omega arith; is = a; unbeaten = both y.value (beats_yes q y.value x.value t).0 (no_better_refl q y.value) })
-      (λ t. record { at = b.at; below = omega arith; is = b.is; unbeaten = both x.value (no_better_refl q x.value) (beats_no q y.value x.value t).0 }))
+      (better_by_ind sum q (λ (z : Loading). NoBetter q x.value z.value → NoBetter q y.value z.value → BestTo q At f (m + 1) z) x y
+      (λ old new. record { at = b.at; below = omega arith; is = b.is; unbeaten = both x.value old new })
+      (λ old new. record { at = m; below = omega arith; is = a; unbeaten = both y.value old new }) (better_by_left sum q x y) (better_by_right sum q x y))
     where
       both : (z : ℤ) → NoBetter q x.value z → NoBetter q y.value z → (j : ℕ) → j < m + 1 → NoBetter q (f j) z
       both z old new j h = elim (dec_le m j) [

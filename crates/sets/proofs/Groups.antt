@@ -1,6 +1,6 @@
 -- A group of lanes gathered lane by lane.
 use Rattle.std.specs.Prelude.{if◌then◌else◌}
-use mathlib.Core.Path.{◌≡◌, refl, sym, ◌∙◌, ap, ap₂, subst}
+use mathlib.Core.Path.{◌≡◌, sym, ◌∙◌, ap, ap₂, subst}
 use mathlib.Core.Bool.{Bool, true, false}
 use Prim.Native.Nat.{ℕ, suc, ◌+◌, ◌*◌, ◌^◌, ◌≤◌, ◌<◌}
 use native.Mathlib.Nat.{mul_comm, mul-le-mul_right, le_trans}
@@ -20,9 +20,6 @@ use Rattle.sets.specs.declared.Group.{Group}
 pub record Gathered (i : ℕ) (test : ℕ → Bool) (v : ℕ → ℤ) (group : Group) : Type 0 where
   pub set : group.set ≡ set_number i test
   pub sum : group.sum ≡ sum_where i test v
-
-pub gathered_none : (test : ℕ → Bool) (v : ℕ → ℤ) → Gathered 0 test v (record { set = 0; sum = pos 0 })
-gathered_none test v = record { set = refl; sum = refl }
 
 -- one lane more
 pub gathered_more : {i : ℕ} {test : ℕ → Bool} {v : ℕ → ℤ} {group r : Group} (t : Bool) (x : ℤ) → Gathered i test v group → t ≡ test i → x ≡ v i →

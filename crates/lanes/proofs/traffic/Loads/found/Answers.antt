@@ -1,19 +1,14 @@
-use mathlib.Core.Path.{◌≡◌, refl, sym, ◌∙◌, ap, subst}
+use mathlib.Core.Path.{◌≡◌, ◌∙◌, ap}
 use lib.Dec.{lit<}
 use lib.IntN.{ℤ}
 use mir.Syntax.{w64}
 use mir.Val.{to_z, of_z}
-use Rattle.exact.specs.Bounds.{Within}
 use Rattle.exact.proofs.Held.{known, back}
 use Rattle.model.specs.Traffic.{effect_of}
-use Rattle.magnitudes.specs.Magnitudes.{traffic_most}
 use Rattle.lanes.specs.Entries.{chosen_in}
 use Rattle.lanes.proofs.Given.{some_lanes}
 use Rattle.lanes.proofs.Placements.{traffic_placed}
 use Rattle.lanes.proofs.traffic.Loads.found.Goals as goal
-
-pub returns-clause-near : goal.returns-clause-near
-returns-clause-near c = subst (Within traffic_most) (sym (back w64 c.value.type_inv refl)) c.value.ensures.1
 
 pub returns-clause-placed : goal.returns-clause-placed
 returns-clause-placed c job live f =
