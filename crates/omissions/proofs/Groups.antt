@@ -23,7 +23,7 @@ use Rattle.omissions.specs.ChainTables.{Distinct, NamesTo}
 use Rattle.omissions.specs.declared.Share.{Share}
 use Rattle.omissions.specs.declared.Chained.{Chained}
 use Rattle.omissions.specs.Chained.{term_of, ShareRight, extended_by, ChainRight}
-use Rattle.omissions.proofs.Omissions.{Sofar, sofar_none, sofar_more, sofar_near, sofar_all}
+use Rattle.omissions.proofs.Omissions.{Sofar, sofar_more, sofar_near, sofar_all}
 
 -- ---- its terms
 module _ (f : ℕ → ℕ) where
@@ -81,9 +81,6 @@ module _ (q : Question) (effect : ℕ → Effect) where
   pub record GroupSofar (f : ℕ → ℕ) (e : ℕ) (x : Chained) : Type 0 where
     pub terms : ℕ
     pub sofar : Sofar q effect (terms_by f 1 11) (onwards f e) terms x
-
-  pub group_none : (f : ℕ → ℕ) → GroupSofar f 1 (record { value = pos 0; omitted = 0 })
-  group_none f = record { terms = 0; sofar = sofar_none q effect (terms_by f 1 11) }
 
   pub group_more : (f : ℕ → ℕ) (e : ℕ) (own : Share) (x : Chained) → e < 12 → ShareRight effect (term_of e (f e)) own → GroupSofar f e x → GroupSofar f (e + 1) (extended_by q own x)
   group_more f e own x h r g =

@@ -1,7 +1,7 @@
 -- A chain's best value term by term, and what it leaves out as a number's bits.
 use Rattle.std.specs.Prelude.{if◌then◌else◌}
 use mathlib.Core.Path.{◌≡◌, refl, sym, ◌∙◌, ap, ap₂, subst}
-use mathlib.Core.Bool.{Bool, true, false, ◌&&◌, ◌||◌, true≢false, false≢true, or-true, and-eq-true_iff}
+use mathlib.Core.Bool.{Bool, true, false, ◌&&◌, ◌||◌, true≢false, false≢true, or-true, or-false, and-eq-true_iff}
 use mathlib.Core.List.{List, [], ◌∷◌}
 use Prim.Native.Nat.{ℕ, zero, suc, ◌+◌, ◌-◌, ◌*◌, ◌/◌, ◌%◌, ◌^◌, ◌≤◌, ◌<◌, max}
 use native.Mathlib.Nat.{pow-suc, div_self, div-eq_of_lt, mul-mod_left, mul-add-mod_self_right, mod-lt}
@@ -122,12 +122,8 @@ module _ (q : Question) (effect : ℕ → Effect) where
       absent : left l t.effect ≡ false
       absent = by_test (left l t.effect) (λ b. b ≡ false) (λ p. absurd (true≢false (sym (left_names l t.effect p).0 ∙ d.0))) (λ _. refl)
 
-      alone : (b : Bool) → (b || false) ≡ b
-      alone true = refl
-      alone false = refl
-
       own : left (t ∷ l) t.effect ≡ leaves_out t
-      own = ap₂ (λ (b c : Bool). (b && leaves_out t) || c) (eq-eqb t.effect t.effect refl) absent ∙ alone (leaves_out t)
+      own = ap₂ (λ (b c : Bool). (b && leaves_out t) || c) (eq-eqb t.effect t.effect refl) absent ∙ or-false (leaves_out t)
 
       other : (e : ℕ) → names l e ≡ true → left (t ∷ l) e ≡ left l e
       other e n = ap (λ (b : Bool). (b && leaves_out t) || left l e) (ne_eqb t.effect e (λ p. true≢false (sym n ∙ ap (names l) (sym p) ∙ d.0)))
@@ -182,13 +178,7 @@ module _ (q : Question) (effect : ℕ → Effect) where
   pub sofar_none : (whole : List Term) → Sofar whole whole 0 (record { value = pos 0; omitted = 0 })
   sofar_none whole = record { value = solve 1 (λ z. lit 0 ⊕ z ≐ z) tt (best_chain q effect whole); omitted = λ d. ap (λ (b : Bool). b || left whole d) (none_left d); near = within_pos _ (omega arith); walked = omega arith }
 
-  -- and its next record, as the code counts
-  pub sofar_start : (s : List ℕ) (count c : ℕ) → Sofar (terms_from s count c) (terms_from s (count - 0) c) 0 (record { value = pos 0; omitted = 0 })
-  sofar_start s count c =
-      let e : count ≡ count - 0 = omega arith in
-      let whole = terms_from s count c in
-      subst (λ (k : ℕ). Sofar whole (terms_from s k c) 0 (record { value = pos 0; omitted = 0 })) e (sofar_none whole)
-
+  -- its next record, as the code counts
   pub sofar_next : (s : List ℕ) (whole : List Term) (count i c n : ℕ) (own : Share) (x : Chained) → ¬ (c ≡ 0) → i < count → n ≡ next_record s c → ShareRight effect (term_at s c) own →
       Sofar whole (terms_from s (count - i) c) i x → Sofar whole (terms_from s (count - (i + 1)) n) (i + 1) (extended_by q own x)
   sofar_next s whole count i c n own x there l e right sofar =
@@ -210,9 +200,5 @@ module _ (q : Question) (effect : ℕ → Effect) where
         let value = sym (solve 1 (λ z. z ⊕ lit 0 ≐ z) tt x.value) ∙ ap (λ (l : List Term). x.value +ℤ best_chain q effect l) (sym e) ∙ s.value in
         record { value = value; gives = chain_attained q effect (omits x.omitted) whole (suits (omits x.omitted) whole d (λ k _. is k)) ∙ sym value; may_omit = λ k t. left_names whole k (sym (is k) ∙ t); near = sofar_near }
       where
-        alone : (b : Bool) → b ≡ (b || false)
-        alone true = refl
-        alone false = refl
-
         is : (k : ℕ) → omits x.omitted k ≡ left whole k
-        is k = alone (omits x.omitted k) ∙ ap (λ (l : List Term). omits x.omitted k || left l k) (sym e) ∙ s.omitted k
+        is k = sym (or-false (omits x.omitted k)) ∙ ap (λ (l : List Term). omits x.omitted k || left l k) (sym e) ∙ s.omitted k

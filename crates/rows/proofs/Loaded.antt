@@ -1,4 +1,4 @@
--- A row's traffic by its live kind, and the row's best value by its chain's.
+-- A row's best value by its chain's and its traffic.
 use Rattle.std.specs.Prelude.{if◌then◌else◌}
 use mathlib.Core.Path.{◌≡◌, refl, sym, ◌∙◌, ap, ap₂, subst}
 use mathlib.Core.Bool.{Bool, true, false, true≢false}
@@ -11,23 +11,12 @@ use Rattle.exact.specs.declared.Question.TheVariants.{Greatest, Least}
 use Rattle.exact.proofs.Bridge.{by_test}
 use Rattle.exact.proofs.Extremes.{no_better_refl, no_better_antisym, no_better_add, better_left, better_right, better_ind, beats_yes, beats_no, better_first, better_second}
 use Rattle.exact.proofs.Ring.{◌⊕◌, ◌⊗◌, lit, ◌≐◌, solve}
-use Rattle.model.specs.Decode.{live_of}
 use Rattle.model.specs.Job.{Effect, Live, Row}
 use Rattle.model.specs.Rows.{row_value, best_chain, best_row}
 use Rattle.model.specs.declared.{ByLive.ByLive, Governing.Governing}
 use Rattle.omissions.specs.declared.Chained.{Chained}
 use Rattle.omissions.specs.Chained.{ChainRight}
 use Rattle.rows.specs.Governed.{live_value, laden_row, AlternativeRight, RowRight, better_row}
-
--- the value that each number of a live kind takes
-pub kind_normal : (v : ByLive ℤ) (k : ℕ) → k ≡ 1 → live_value v (live_of k) ≡ v.normal
-kind_normal v k e = rw e refl
-
-pub kind_overload : (v : ByLive ℤ) (k : ℕ) → k ≡ 2 → live_value v (live_of k) ≡ v.overload
-kind_overload v k e = rw e refl
-
-pub kind_none : (v : ByLive ℤ) (k : ℕ) → k ≤ 2 → ¬ (k ≡ 1) → ¬ (k ≡ 2) → live_value v (live_of k) ≡ pos 0
-kind_none v k h f g = let e : k ≡ 0 = omega arith in rw e refl
 
 -- ---- a row by an alternative's chain and its traffic
 module _ (q : Question) (effect : ℕ → Effect) (row : Row) (v : ByLive ℤ) (a : ℕ) (x : Chained) (right : ChainRight q effect (row.chain a) x) where
