@@ -122,9 +122,11 @@ impl Loads {
         ensures placed { (job : Job) → LoadsOf job self.now → TrafficPlaced self.now.q job normal result.normal × TrafficPlaced self.now.q job overload result.overload }
     {
         let light = entries::values(self.q, &self.across, self.hn);
+        let one = sets::one_lane(light[0]);
+        let none = sets::no_lane();
         ByLive {
-            normal: self.found(sets::one_lane(light[0])),
-            overload: self.found(sets::no_lane()),
+            normal: self.found(one),
+            overload: self.found(none),
         }
     }
 

@@ -35,19 +35,22 @@ module _ (q : Question) (across : Across) (e : Effects) (loads : LoadsFit hn_lin
       let is = sym lane.1.is in
       subst (λ (n : ℕ). LoadingRight q rural normal n (value_at v) ho r) (sym one) (right q (value_at v) ho is (subst (NoBetter q (pos 0)) is (light.some 0 (some_lanes across).0)))
 
-pub one_lane-requires : goal.one_lane-requires
-one_lane-requires c = let s = c.args.self.now in (told (lane s.q s.across s.hn s.fits.light c.values-light.result c.values-light.ensures).1).1
+pub one_lane-one-requires : goal.one_lane-one-requires
+one_lane-one-requires c = let s = c.args.self.now in (told (lane s.q s.across s.hn s.fits.light c.values-light.result c.values-light.ensures).1).1
 
 pub found-requires : goal.found-requires
 found-requires c =
     let s = c.args.self.now in
-    to_place (some_lanes s.across).1 (one_right s.q s.across s.hn s.fits.light c.values-light.result c.values-light.ensures (s.fits.one c.requires) c.one_lane.result c.one_lane.ensures (λ i. pos 0))
+    to_place (some_lanes s.across).1 (one_right s.q s.across s.hn s.fits.light c.values-light.result c.values-light.ensures (s.fits.one c.requires) c.one_lane-one.result c.one_lane-one.ensures (λ i. pos 0))
 
+-- it fits with either loading; which one is best is said at the return
 pub found-requires-2 : goal.found-requires-2
 found-requires-2 c =
     let s = c.args.self.now in
     let few = (some_lanes s.across).1 in
-    to_place few (c.no_lane.ensures.loading_right s.q s.across.lanes (λ i. pos 0) (λ i. pos 0) few)
+    let one = to_place few (one_right s.q s.across s.hn s.fits.light c.values-light.result c.values-light.ensures (s.fits.one c.requires) c.one_lane-one.result c.one_lane-one.ensures (λ i. pos 0)) in
+    let none = to_place few (c.no_lane-none.ensures.loading_right s.q s.across.lanes (λ i. pos 0) (λ i. pos 0) few) in
+    search (none, one)
 
 pub returns-clause-placed : goal.returns-clause-placed
 returns-clause-placed c job on =
@@ -59,8 +62,8 @@ returns-clause-placed c job on =
     let under_hn_lem = elements s.q s.across s.hn s.fits.light job HN on.spanned on.hn in
     let light_is = effects s.q s.across s.hn s.fits.light v.result v.ensures job HN on.spanned on.hn in
     let ho = lane_effect s.q job HO in
-    let one = one_right s.q s.across s.hn s.fits.light v.result v.ensures (s.fits.one c.requires) c.one_lane.result c.one_lane.ensures ho in
-    let none = c.no_lane.ensures.loading_right s.q s.across.lanes (value_at v.result) ho (some_lanes s.across).1 in (
-      c.found.ensures.placed job normal (hn_loading s.q job rural normal s.across s.dynamic c.one_lane.result hn over (value_at v.result) on.spanned loads on.dynamic one one.kinds light_is under_hn_lem),
-      c.found-2.ensures.placed job overload (hn_loading s.q job rural overload s.across s.dynamic c.no_lane.result hn over (value_at v.result) on.spanned loads on.dynamic none none.kinds.1 light_is under_hn_lem),
+    let one = one_right s.q s.across s.hn s.fits.light v.result v.ensures (s.fits.one c.requires) c.one_lane-one.result c.one_lane-one.ensures ho in
+    let none = c.no_lane-none.ensures.loading_right s.q s.across.lanes (value_at v.result) ho (some_lanes s.across).1 in (
+      c.found.ensures.placed job normal (hn_loading s.q job rural normal s.across s.dynamic c.one_lane-one.result hn over (value_at v.result) on.spanned loads on.dynamic one one.kinds light_is under_hn_lem),
+      c.found-2.ensures.placed job overload (hn_loading s.q job rural overload s.across s.dynamic c.no_lane-none.result hn over (value_at v.result) on.spanned loads on.dynamic none none.kinds.1 light_is under_hn_lem),
     )
