@@ -3,7 +3,7 @@ use Rattle.std.specs.Prelude.{ℕ, ◌≤◌, ◌<◌, ◌≡◌, List, [], ◌�
 use Rattle.std.specs.Prelude.{None, Some}
 use Rattle.buffer.specs.Stored.{cleared}
 use Rattle.numbers.specs.NumberBytes.{numbers_bytes, ReadBack}
-use Rattle.model.specs.{Refusals.Refusal, Refusals.packed, StandardForm.form, StandardForm.write_verdict}
+use Rattle.model.specs.{declared.Refusal.Refusal, Refusals.packed, StandardForm.form, StandardForm.write_verdict}
 
 -- how many bytes the report has, one number
 abbrev pub length_size : ℕ

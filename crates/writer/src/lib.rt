@@ -1,16 +1,16 @@
 // The call that writes a job's standard form.
 #![tactic(auto)]
 
-ghost use Rattle.std.specs.Prelude.{◌≡◌, ◌++◌, ◌≤◌, length, drop};
+ghost use Rattle.std.specs.Prelude.{◌≡◌, ◌++◌, ◌≤◌, length, drop, None, Some, MatchResult};
 ghost use Rattle.buffer.specs.Stored.{HasRoom, Puts, cleared};
 ghost use Rattle.model.specs.Refusals.{packed};
-ghost use Rattle.model.specs.StandardForm.{record_count, form};
+ghost use Rattle.model.specs.StandardForm.{record_count, form, write_verdict};
 ghost use Rattle.writer.specs.Writable.{Writable, form_front};
 ghost use Rattle.writer.specs.FormWritten.{length_size, FormWritten};
 
 use buffer::Cursor;
 use job::refusals;
-use model::{Header, Part};
+use model::{Header, Part, Refusal};
 use sections::header;
 
 // The bytes of a report.
@@ -21,12 +21,18 @@ const COUNT_START: usize = 36;
 
 const COUNT_END: usize = 40;
 
+// The refusal of a report's buffer that is too short.
+const SHORT_REPORT: Refusal = Refusal {
+    number: 2,
+    place: 0,
+};
+
 // A refusal: the report is cleared.
-fn refused(report: &mut [u8], number: u32, place: u32) -> u64
-    ensures { (result ≡ packed number place) × (report.new ≡ cleared length_size report.old) }
+fn refused(report: &mut [u8], refusal: Refusal) -> u64
+    ensures { (result ≡ packed refusal.number refusal.place) × (report.new ≡ cleared length_size report.old) }
 {
     buffer::clear(report, REPORT_SIZE);
-    number as u64 + 256 * (place as u64)
+    refusal.packed()
 }
 
 // C of the form.
@@ -71,24 +77,36 @@ fn put_form(out: &mut [u8], job: &[u8], head: Header, count: usize)
     tables::put_chains(&mut w, rows, records, head);
 }
 
+// The form in front of the buffer, and its length; a refusal leaves the buffer as it was.
+fn form(job: &[u8], out: &mut [u8]) -> Result<usize, Refusal>
+    ensures { MatchResult result (λ n. (write_verdict job.now (length out.old) ≡ None) × (n ≡ length (form job.now)) × (n ≤ 655104) × (out.new ≡ form job.now ++ drop (length (form job.now)) out.old)) (λ r. (write_verdict job.now (length out.old) ≡ Some r) × (out.new ≡ out.old)) }
+{
+    refusals::highway_verdict(job)?;
+    let head = header::read(job);
+    let records = count(job, head);
+    let bytes = size(job, head, records);
+    if out.len() < bytes {
+        return Err(Refusal {
+            number: 12,
+            place: bytes as u32,
+        });
+    }
+    put_form(out, job, head, records);
+    Ok(bytes)
+}
+
 // The whole call.
 pub fn write(job: &[u8], out: &mut [u8], report: &mut [u8]) -> u64
     ensures { FormWritten job.now out.old report.old result out.new report.new }
 {
     if report.len() < REPORT_SIZE {
-        return refused(report, 2, 0);
+        return refused(report, SHORT_REPORT);
     }
-    let ruling = refusals::highway_verdict(job);
-    if ruling.number != 0 {
-        return refused(report, ruling.number, ruling.place);
+    match form(job, out) {
+        Ok(bytes) => {
+            numbers::put_count(&mut Cursor { out: report, at: 0 }, bytes as u64);
+            0
+        }
+        Err(refusal) => refused(report, refusal),
     }
-    let head = header::read(job);
-    let records = count(job, head);
-    let bytes = size(job, head, records);
-    if out.len() < bytes {
-        return refused(report, 12, bytes as u32);
-    }
-    put_form(out, job, head, records);
-    numbers::put_count(&mut Cursor { out: report, at: 0 }, bytes as u64);
-    0
 }
