@@ -1,6 +1,5 @@
 -- The parts of an account, each right by itself: what the account's own functions ensure. The call's contract is `Answered` (model).
-use Rattle.std.specs.Prelude.{◌≡◌, List, ℕ, ℤ}
-use Rattle.std.specs.Prelude.{None}
+use Rattle.std.specs.Prelude.{◌≡◌, List, ℕ, ℤ, None}
 use Rattle.exact.specs.Bounds.{Within}
 use Rattle.exact.specs.Questions.{for_question}
 use Rattle.exact.specs.declared.ByQuestion.{ByQuestion}

@@ -8,20 +8,15 @@ ghost use Rattle.model.specs.declared.Part.TheVariants.{Records};
 ghost use Rattle.model.specs.Chains.{record_effect, record_factor, next_record, walk, names_twice};
 ghost use Rattle.chains.specs.Linked.{Linked, EffectsTo};
 
-// Record c's word j, from 0, as a count.
-fn word(records: &[u8], c: usize, j: usize) -> usize
-    requires { (1 ≤ c) × (bytes Records * c ≤ length records.now) × (j < size Records) }
-    ensures { (result ≡ count_at records.now (size Records * (c - 1) + j)) × (result ≤ 2147483648) }
-{
-    words::count(records, model::RECORD_WORDS * (c - 1) + j)
-}
+use model::RECORD_WORDS;
+use words::item_word;
 
 // Record c's effect.
 pub fn effect(records: &[u8], c: usize) -> usize
     requires { (1 ≤ c) × (bytes Records * c ≤ length records.now) }
     ensures { (result ≡ record_effect records.now c) × (result ≤ 2147483648) }
 {
-    word(records, c, 0)
+    item_word::<RECORD_WORDS>(records, c, 0)
 }
 
 // Record c's factor, in thousandths.
@@ -29,7 +24,7 @@ pub fn factor(records: &[u8], c: usize) -> usize
     requires { (1 ≤ c) × (bytes Records * c ≤ length records.now) }
     ensures { (result ≡ record_factor records.now c) × (result ≤ 2147483648) }
 {
-    word(records, c, 1)
+    item_word::<RECORD_WORDS>(records, c, 1)
 }
 
 // The record after c on its chain; 0 ends it.
@@ -37,7 +32,7 @@ pub fn next(records: &[u8], c: usize) -> usize
     requires { (1 ≤ c) × (bytes Records * c ≤ length records.now) }
     ensures { (result ≡ next_record records.now c) × (result ≤ 2147483648) }
 {
-    word(records, c, 2)
+    item_word::<RECORD_WORDS>(records, c, 2)
 }
 
 // The chain from c ends within so many visits.

@@ -1,11 +1,10 @@
 -- An account as bytes: 157 numbers of eight bytes each, one after the other, in the order of `account_numbers`. Number k starts at byte 8 * k; include/hnho.h names each place.
 -- Sides: 0 left, 1 right. Entries: 0 unloaded, 1 HN raising, 2 HN lowering, 3 HO raising, 4 HO lowering. A lane set has a bit a lane, the effects left out a bit an effect, the first the lowest.
-use Rattle.std.specs.Prelude.{ℕ, ◌*◌, ◌<◌, ◌^◌, Bool, true, false, List, [], ◌∷◌, ◌++◌, ℤ, pos, replicate}
+use Rattle.std.specs.Prelude.{ℕ, ◌*◌, ◌<◌, ◌^◌, Bool, true, false, List, [], ◌∷◌, ◌++◌, ℤ, pos, replicate, None, Some}
 use Rattle.numbers.specs.NumberBytes.{numbers_bytes}
 use Rattle.placements.specs.PlacementNumbers.{placements_numbers}
 use Rattle.model.specs.Numbers.{side_number, state_number}
 use Rattle.model.specs.declared.Position.{Position}
-use Rattle.std.specs.Prelude.{None, Some}
 use Rattle.model.specs.Answers.{Traffic, State}
 use Rattle.model.specs.declared.Governing.{Governing}
 use Rattle.model.specs.declared.Account.{Account}

@@ -1,6 +1,5 @@
 -- What may be wrong with a row's chain, and the first row whose chain has it.
-use Rattle.std.specs.Prelude.{ℕ, ◌+◌, Bool, not, List}
-use Rattle.std.specs.Prelude.{Option}
+use Rattle.std.specs.Prelude.{ℕ, ◌+◌, Bool, not, List, Option}
 use Rattle.words.specs.Fields.{misfit}
 use Rattle.model.specs.Format.{header_of, section_of}
 use Rattle.model.specs.Chains.{returns, names_twice}

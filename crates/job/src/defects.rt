@@ -1,6 +1,5 @@
 // The first row whose chain comes back to a record, or names an effect twice.
-ghost use Rattle.std.specs.Prelude.{◌≡◌, ◌*◌, ◌≤◌, length};
-ghost use Rattle.std.specs.Prelude.{None};
+ghost use Rattle.std.specs.Prelude.{◌≡◌, ◌*◌, ◌≤◌, length, None};
 ghost use Rattle.model.specs.Refusals.{fault6};
 ghost use Rattle.model.specs.Format.{bytes};
 ghost use Rattle.model.specs.declared.Part.TheVariants.{Records};

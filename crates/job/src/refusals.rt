@@ -1,6 +1,5 @@
 // The refusals of a job, each the lowest place at fault, and the verdict.
-ghost use Rattle.std.specs.Prelude.{◌≡◌, ◌&&◌, [], ◌∷◌, ℕ, ◌*◌, ◌≤◌, ◌<◌, leb, length};
-ghost use Rattle.std.specs.Prelude.{None, Some};
+ghost use Rattle.std.specs.Prelude.{◌≡◌, ◌&&◌, [], ◌∷◌, ℕ, ◌*◌, ◌≤◌, ◌<◌, leb, length, None, Some};
 ghost use Rattle.words.specs.Words.{word_at};
 ghost use Rattle.words.specs.Fields.{moved};
 ghost use Rattle.model.specs.Format.{is, edition_number, header_of, bytes, words, start, fault};

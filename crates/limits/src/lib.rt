@@ -1,8 +1,7 @@
 // The lowest place at fault in a part after the header, item by item, by the limits of its row of the table. Places count from the part's first word.
 #![tactic(auto)]
 
-ghost use Rattle.std.specs.Prelude.{◌≡◌, ℕ, [], ◌∷◌, ◌+◌, ◌*◌, ◌≤◌, ◌<◌, pos, neg_ℤ, ltb, length, if◌then◌else◌};
-ghost use Rattle.std.specs.Prelude.{Some};
+ghost use Rattle.std.specs.Prelude.{◌≡◌, ℕ, [], ◌∷◌, ◌+◌, ◌*◌, ◌≤◌, ◌<◌, pos, neg_ℤ, ltb, length, if◌then◌else◌, Some};
 ghost use Rattle.exact.specs.Bounds.{Within};
 ghost use Rattle.exact.specs.Choice.{between};
 ghost use Rattle.words.specs.Words.{word_at, wide};

@@ -27,7 +27,7 @@ module _ (b : List ℕ) (not-2 : is 2 (word_at b 0) ≡ false) (not-3 : is 3 (wo
   unfolding fault1
   first_frame = rw is_first refl
 
-  -- 2: ten header words; word 6 of kinds 1 to 3 by `value-to-kind-3` (Dynamic)
+  -- 2: ten header words; word 6 of kinds 1 to 3 by `value_to_kind_3` (Dynamic)
   pub first_header : format (header_of b) Head ≡ (1 of free ∷ piece_length ∷ given 1 piece_count ∷ range 10 50 ∷ range 300 2079 ∷ range 1 3 ∷ given 5 (λ kind item value. dynamic_fits kind value) ∷ range 0 16 ∷ range 1 32 ∷ range 0 512 ∷ [])
   first_header = rw is_first refl
 

@@ -1,7 +1,6 @@
 -- "The job's words" as one table: for an edition, each part of a job with the number of its items and the limits of their words.
-use Rattle.std.specs.Prelude.{ℕ, ◌+◌, ◌-◌, ◌*◌, ◌/◌, if◌then◌else◌}
+use Rattle.std.specs.Prelude.{ℕ, ◌+◌, ◌-◌, ◌*◌, ◌/◌, if◌then◌else◌, Option, None}
 use mathlib.Core.{Bool.Bool, List.List, List.[], List.◌∷◌}
-use Rattle.std.specs.Prelude.{Option, None}
 use lib.{IntN.ℤ, IntN.pos, IntN.◌*ℤ◌, Signed.le_z, ListN.length, ListN.take, ListN.drop, Dec.ltb, Dec.eqb}
 use Rattle.exact.specs.Choice.{between, or_else}
 use Rattle.words.specs.{Words.word_at, Words.count_at, Fields.Field, Fields.Layout, Fields.free, Fields.range, Fields.within, Fields.wide_within, Fields.one_of, Fields.given, Fields.numbered, Fields.both, Fields.◌of◌, Fields.words_in, Fields.moved, Fields.misfit}

@@ -1,7 +1,6 @@
 -- "One way to write a job" (02): a job's standard form, and when two jobs say the same. In the form records are numbered in row order, rising by effect within a row, zero factors dropped, no shared tails and no other records.
-use Rattle.std.specs.Prelude.{ℕ, zero, suc, ◌+◌, ◌*◌, ◌≤◌, ◌<◌, if◌then◌else◌}
+use Rattle.std.specs.Prelude.{ℕ, zero, suc, ◌+◌, ◌*◌, ◌≤◌, ◌<◌, if◌then◌else◌, Option}
 use mathlib.Core.{Path.◌≡◌, List.List, List.[], List.◌∷◌, List.◌++◌}
-use Rattle.std.specs.Prelude.{Option}
 use lib.{ListN.length, ListN.take, ListN.drop, Dec.leb, Dec.eqb}
 use Rattle.exact.specs.Choice.{or_else}
 use Rattle.words.specs.Words.{byte_at, word_at}

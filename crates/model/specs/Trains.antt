@@ -1,7 +1,6 @@
 -- "Rating trucks" of document 02: a train of axles on the line alone. Loads are in kN, distances in dm, effects in kN·U.
-use Rattle.std.specs.Prelude.{ℕ, zero, suc, ◌+◌, ◌-◌, ◌*◌, ◌/◌, ◌%◌, ◌<◌, if◌then◌else◌}
+use Rattle.std.specs.Prelude.{ℕ, zero, suc, ◌+◌, ◌-◌, ◌*◌, ◌/◌, ◌%◌, ◌<◌, if◌then◌else◌, Option, Some}
 use mathlib.Core.{Path.◌≡◌, Bool.Bool, Bool.◌&&◌, List.List, List.[], List.◌∷◌}
-use Rattle.std.specs.Prelude.{Option, Some}
 use lib.{IntN.ℤ, IntN.pos, IntN.neg_ℤ, IntN.◌+ℤ◌, IntN.◌-ℤ◌, IntN.◌*ℤ◌, Signed.◌≤ℤ◌, ListN.length, ListN.get_or, Dec.leb, Dec.eqb}
 use Rattle.exact.specs.{Ranges.sum_to, Questions.better, Questions.extreme, Questions.NoBetter, declared.Question.Question, declared.Question.TheVariants.Greatest, declared.Question.TheVariants.Least}
 use Rattle.words.specs.Fields.{admits, first_answer, misfit}

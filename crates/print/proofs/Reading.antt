@@ -1,5 +1,5 @@
 -- A reader takes no text that was cut short for an answer.
-use Rattle.std.specs.Prelude.{if◌then◌else◌}
+use Rattle.std.specs.Prelude.{if◌then◌else◌, None, Some, Ok, Err}
 use mathlib.Core.Path.{◌≡◌, refl, sym, ap, ◌∙◌}
 use mathlib.Core.Bool.{Bool, true, false, cond}
 use mathlib.Core.List.{List, [], ◌∷◌, ◌++◌, append_assoc}
@@ -10,7 +10,6 @@ use lib.Dec.{ltb, eqb}
 use lib.IntN.{ℤ, pos, negsuc}
 use lib.ListN.{get_or}
 use borrow.Author.Tests.{ne_eqb}
-use Rattle.std.specs.Prelude.{None, Some, Ok, Err}
 use Rattle.model.specs.Answers.{Traffic, State, Answer}
 use Rattle.model.specs.declared.Governing.{Governing}
 use Rattle.model.specs.declared.Refusal.{Refusal}

@@ -1,6 +1,5 @@
 -- What a row's best value, and a limit state's, come with.
-use Rattle.std.specs.Prelude.{ℕ, ◌≤◌, ◌≡◌, Bool, true, false, ℤ, pos, ◌+ℤ◌, ◌*ℤ◌, if◌then◌else◌}
-use Rattle.std.specs.Prelude.{Option, None, Some}
+use Rattle.std.specs.Prelude.{ℕ, ◌≤◌, ◌≡◌, Bool, true, false, ℤ, pos, ◌+ℤ◌, ◌*ℤ◌, if◌then◌else◌, Option, None, Some}
 use Rattle.exact.specs.Bounds.{Within}
 use Rattle.exact.specs.Questions.{better, beats, for_question, better_by}
 use Rattle.exact.specs.declared.ByQuestion.{ByQuestion}

@@ -12,7 +12,8 @@ ghost use Rattle.model.specs.declared.Part.TheVariants.{Rows, Records};
 ghost use Rattle.tables.specs.ChainsRead.{RecordsRead, ChainReads, ChainsRead, terms_in, chain_terms, table_terms};
 
 use buffer::Cursor;
-use model::Header;
+use model::{Header, ROW_WORDS};
+use words::item_word;
 
 // The factor that the chain from a first record gives each effect; 0 if absent.
 fn factors(records: &[u8], first: usize, left: usize) -> [usize; 16]
@@ -52,7 +53,7 @@ fn first_record(rows: &[u8], i: usize) -> usize
     requires { bytes Rows * suc i ≤ length rows.now }
     ensures { result ≡ first_record rows.now (suc i) }
 {
-    words::count(rows, model::ROW_WORDS * i + 3)
+    item_word::<ROW_WORDS>(rows, i + 1, 3)
 }
 
 // C of the form.
@@ -79,7 +80,7 @@ fn put_row(w: &mut Cursor, rows: &[u8], i: usize, first: usize)
     requires { HasRoom (bytes Rows) w.old × (bytes Rows * suc i ≤ length rows.now) }
     ensures { Puts w.old (row_head rows.now i ++ word_bytes first) w.new }
 {
-    let from = 4 * model::ROW_WORDS * i;
+    let from = 4 * ROW_WORDS * i;
     w.put(&rows[from..from + 12]);
     w.put_word(first);
 }

@@ -1,6 +1,5 @@
 -- What the call for a train ensures: one refusal, or the report of a rating that is right.
-use Rattle.std.specs.Prelude.{ℕ, ◌≡◌, List, ◌++◌, length, drop}
-use Rattle.std.specs.Prelude.{Option, None, Some}
+use Rattle.std.specs.Prelude.{ℕ, ◌≡◌, List, ◌++◌, length, drop, Option, None, Some}
 use Rattle.numbers.specs.NumberBytes.{numbers_bytes, ReadBack}
 use Rattle.model.specs.{Decode.influence_line, declared.Refusal.Refusal, Refusals.packed, Trains.TrainCall, Trains.mode_of, Trains.report_size, Trains.RatingRight, Trains.train_verdict, declared.Rating.Rating}
 use Rattle.buffer.specs.Stored.{cleared}

@@ -1,6 +1,5 @@
 -- What the table of a format is made of: a section has items, an item has fields, and a field is a word with limits.
-use Rattle.std.specs.Prelude.{ℕ, zero, suc, ◌+◌, ◌*◌, Bool, true, false, ◌&&◌, ◌||◌, List, [], ◌∷◌, ℤ, pos, neg_ℤ, length, if◌then◌else◌}
-use Rattle.std.specs.Prelude.{Option, None, Some}
+use Rattle.std.specs.Prelude.{ℕ, zero, suc, ◌+◌, ◌*◌, Bool, true, false, ◌&&◌, ◌||◌, List, [], ◌∷◌, ℤ, pos, neg_ℤ, length, if◌then◌else◌, Option, None, Some}
 use Rattle.exact.specs.Choice.{between, or_else}
 use Rattle.words.specs.Words.{word_at, wide}
 

@@ -1,6 +1,5 @@
 -- What the call that writes a job's standard form ensures: one refusal, or the form and its length.
-use Rattle.std.specs.Prelude.{ℕ, ◌≤◌, ◌<◌, ◌≡◌, List, [], ◌∷◌, ◌++◌, ℤ, pos, length, drop}
-use Rattle.std.specs.Prelude.{None, Some}
+use Rattle.std.specs.Prelude.{ℕ, ◌≤◌, ◌<◌, ◌≡◌, List, [], ◌∷◌, ◌++◌, ℤ, pos, length, drop, None, Some}
 use Rattle.buffer.specs.Stored.{cleared}
 use Rattle.numbers.specs.NumberBytes.{numbers_bytes, ReadBack}
 use Rattle.model.specs.{declared.Refusal.Refusal, Refusals.packed, StandardForm.form, StandardForm.write_verdict}

@@ -1,6 +1,5 @@
 -- What is asked of a job before its form is written, and the front of the form.
-use Rattle.std.specs.Prelude.{◌≡◌, List, ◌++◌, ℕ}
-use Rattle.std.specs.Prelude.{None}
+use Rattle.std.specs.Prelude.{◌≡◌, List, ◌++◌, ℕ, None}
 use Rattle.model.specs.Format.{header_of}
 use Rattle.model.specs.Refusals.{highway_verdict}
 use Rattle.model.specs.StandardForm.{form_part}
