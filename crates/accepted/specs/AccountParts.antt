@@ -6,7 +6,7 @@ use Rattle.exact.specs.declared.ByQuestion.{ByQuestion}
 use Rattle.exact.specs.declared.Question.{Question}
 use Rattle.exact.specs.declared.Question.TheVariants.{Greatest, Least}
 use Rattle.magnitudes.specs.Magnitudes.{traffic_most}
-use Rattle.model.specs.Job.{Job, Limit, Live, normal, overload, HasTraffic}
+use Rattle.model.specs.Job.{Job, Limit, Live, HasTraffic}
 use Rattle.model.specs.Format.{header_of}
 use Rattle.model.specs.Refusals.{job_verdict}
 use Rattle.model.specs.Lanes.{lanes_of, second_lanes}

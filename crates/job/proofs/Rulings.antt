@@ -1,6 +1,6 @@
 -- How the verdict goes from test to test.
-use Rattle.std.specs.Prelude.{if◌then◌else◌, Option, None, Some, Result, Ok, Err, IsErrAnd}
-use mathlib.Core.Path.{◌≡◌, refl, sym, ◌∙◌, ap, subst}
+use Rattle.std.specs.Prelude.{if◌then◌else◌, None, Some}
+use mathlib.Core.Path.{◌≡◌, refl, sym, ◌∙◌, subst}
 use mathlib.Core.Bool.{Bool, true, false}
 use mathlib.Core.List.{List}
 use Prim.Native.Nat.{ℕ, ◌*◌, ◌≤◌, ◌<◌}
@@ -11,8 +11,7 @@ use borrow.Author.Tests.{lt-leb}
 use Rattle.words.specs.Words.{word_at}
 use Rattle.model.specs.Format.{header_of, words, profile_of, is}
 use Rattle.model.specs.Job.{Profile, highway, rural}
-use Rattle.model.specs.Refusals.{refuse, fault1, fault2, job_verdict, job_tests, highway_verdict}
-use Rattle.model.specs.declared.Refusal.{Refusal}
+use Rattle.model.specs.Refusals.{fault1, fault2, job_verdict, job_tests, highway_verdict}
 use Rattle.model.specs.declared.Header.{Header}
 use Rattle.model.specs.declared.Part.TheVariants.{Head}
 use Rattle.model.specs.declared.Edition.TheVariants.{First, Second, Third}

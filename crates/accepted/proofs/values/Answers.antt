@@ -24,13 +24,15 @@ invariant_of-loads c =
     let above = c.requires.sought_right Raising in
     let below = c.requires.sought_right Lowering in
     let range = subst (λ (d : ℕ). (1000 ≤ d) × (d ≤ 1300)) (sym c.factor-dynamic.ensures) (dynamic ready _) in
-    record { fits = record {
-      one = λ r. over.lanes ∙ one_lane ready r;
-      least = range.0;
-      most = range.1;
-      light = loads_fit job HN above below c.effects.ensures.0 c.effects.ensures.1 over (line_reach ready) (line_tenth ready);
-      heavy = loads_fit job HO above below c.effects-2.ensures.0 c.effects-2.ensures.1 over (line_reach ready) (line_tenth ready);
-    } }
+    record {
+      fits = record {
+        one = λ r. over.lanes ∙ one_lane ready r;
+        least = range.0;
+        most = range.1;
+        light = loads_fit job HN above below c.effects.ensures.0 c.effects.ensures.1 over (line_reach ready) (line_tenth ready);
+        heavy = loads_fit job HO above below c.effects-2.ensures.0 c.effects-2.ensures.1 over (line_reach ready) (line_tenth ready);
+      };
+    }
 
 pub returns-clause-placed : goal.returns-clause-placed
 returns-clause-placed c =
