@@ -40,9 +40,8 @@ pub record Ranked (q : Question) (n : ℕ) (v : ℕ → ℤ) (ranks : List ℕ) 
   pub each : (i : ℕ) → i < n → number_at ranks i ≡ rank q n v i
   pub past : (i : ℕ) → n ≤ i → number_at ranks i ≡ 0
 
--- one to ten lanes' values, none worse than 0 and each near enough, and their ranks
+-- the values of at most ten lanes, none worse than 0 and each near enough, and their ranks
 pub record RankingFits (q : Question) (n : ℕ) (hn : List ℤ) (ranks : List ℕ) : Type 0 where
-  pub some : 0 < n
   pub few : n ≤ 10
   pub values : ValuesFit q (among n hn_lane_most) n (value_at hn)
   pub ranked : Ranked q n (value_at hn) ranks

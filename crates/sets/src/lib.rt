@@ -66,7 +66,7 @@ fn rank(q: Question, values: &[i64; 10], n: usize, i: usize) -> u32
 }
 
 // The rank of each of n lanes.
-fn ranks(q: Question, values: &[i64; 10], n: usize) -> [u32; 10]
+pub fn ranks(q: Question, values: &[i64; 10], n: usize) -> [u32; 10]
     requires { n ≤ 10 }
     ensures { Ranked q n (value_at values.now) result }
 {
@@ -181,7 +181,7 @@ pub struct Ranking {
 impl Ranking {
     // The lanes of these values, ranked.
     pub fn new(q: Question, hn: [i64; 10], n: usize) -> Ranking
-        requires { (0 < n) × (n ≤ 10) × ValuesFit q (among n hn_lane_most) n (value_at hn) }
+        requires { (n ≤ 10) × ValuesFit q (among n hn_lane_most) n (value_at hn) }
         ensures { (result.q ≡ q) × (result.n ≡ n) × (result.hn ≡ hn) }
     {
         Ranking {
@@ -273,7 +273,7 @@ impl Ranking {
 
     // The best HO lane of a highway, by each lane's HO value, additional lanes and assignment.
     pub fn best_overload(&self, ho: [i64; 10]) -> Loading
-        requires { (i : ℕ) → i < self.now.n → Within (among self.now.n ho_lane_most) (value_at ho i) }
+        requires { (0 < self.now.n) × ((i : ℕ) → i < self.now.n → Within (among self.now.n ho_lane_most) (value_at ho i)) }
         ensures { LoadingRight self.now.q highway overload self.now.n (value_at self.now.hn) (value_at ho) result }
     {
         let mut best = self.overload_at(ho[0], 0);

@@ -25,7 +25,7 @@ loop-o-preserved c =
     let x = c.overload_at in
     let v = value_at r.hn in
     best_more _ _ _ (λ j r a. a.value) l.o l.best x.result c.better-best.result l.invariant
-    (subst (λ (z : ℤ). OverloadAt r.n (held r.q v r.ranks l.o) v z l.o x.result) (heavy c.args.ho c.requires l.o (omega arith)).1.is x.ensures) c.better-best.ensures
+    (subst (λ (z : ℤ). OverloadAt r.n (held r.q v r.ranks l.o) v z l.o x.result) (heavy c.args.ho c.requires.1 l.o (omega arith)).1.is x.ensures) c.better-best.ensures
 
 pub returns : goal.returns
 returns c =
@@ -33,6 +33,6 @@ returns c =
     let l = c.loop-o in
     let v = value_at r.hn in
     let ho = value_at c.args.ho in
-    let all : l.o ≡ r.n = omega (arith, r.fits.some) in
-    overload_right r.q r.n v ho r.fits.few r.fits.values r.ranks r.fits.ranked c.requires l.best
+    let all : l.o ≡ r.n = omega (arith, c.requires.0) in
+    overload_right r.q r.n v ho r.fits.few r.fits.values r.ranks r.fits.ranked c.requires.1 l.best
     (subst (λ (m : ℕ). BestTo r.q (λ o. OverloadAt r.n (held r.q v r.ranks o) v (ho o) o) (held_sum r.q r.n v ho r.ranks) m l.best) all l.invariant)

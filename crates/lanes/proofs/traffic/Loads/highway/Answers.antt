@@ -14,14 +14,14 @@ use Rattle.lanes.proofs.traffic.Loads.highway.Goals as goal
 pub new-ranking-requires : goal.new-ranking-requires
 new-ranking-requires c =
     let s = c.args.self.now in
-    ((some_lanes s.across).0, (some_lanes s.across).1, values_fit s.q s.across s.hn s.fits.light c.values-light.result c.values-light.ensures)
+    ((some_lanes s.across).1, values_fit s.q s.across s.hn s.fits.light c.values-light.result c.values-light.ensures)
 
 pub best_overload-requires : goal.best_overload-requires
 best_overload-requires c =
     let s = c.args.self.now in
     let v = value_at c.values-heavy.result in
     let heavy : ValuesFit s.q (among s.across.lanes ho_lane_most) s.across.lanes v = values_fit s.q s.across s.ho s.fits.heavy c.values-heavy.result c.values-heavy.ensures in
-    subst (λ (n : ℕ). (i : ℕ) → i < n → Within (among n ho_lane_most) (v i)) (sym c.new-ranking.ensures.1) heavy.near
+    subst (λ (n : ℕ). (0 < n) × ((i : ℕ) → i < n → Within (among n ho_lane_most) (v i))) (sym c.new-ranking.ensures.1) ((some_lanes s.across).0, heavy.near)
 
 pub found-requires : goal.found-requires
 found-requires c = to_place c.new-ranking.result.fits.few (c.best_normal.ensures (λ i. pos 0))
