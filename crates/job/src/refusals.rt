@@ -77,6 +77,7 @@ fn width(s: &[u8], head: Header) -> Option<u32>
 }
 
 // The lowest place at fault in a part after the header.
+#[inline(always)]
 fn fault(s: &[u8], head: Header, part: Part) -> Option<u32>
     requires { AfterHeader part × Sized s.now head }
     ensures { result ≡ fault s.now (header_of s.now) part }

@@ -18,10 +18,12 @@ pub fn in_range(s: &[u8], p: usize, lo: usize, hi: usize) -> bool
     requires { 4 * p + 4 ≤ length s.now }
     ensures { result ≡ between (pos lo) (pos hi) (word_at s.now p) }
 {
-    match usize::try_from(words::word(s, p)) {
-        Ok(n) => lo <= n && n <= hi,
-        Err(_) => false,
+    let x = words::word(s, p);
+    if x < 0 {
+        return false;
     }
+    let n = x as usize;
+    lo <= n && n <= hi
 }
 
 // Word p is from -m to m.
@@ -160,6 +162,7 @@ fn record_misfit(s: &[u8], head: Header, i: usize) -> Option<usize>
 }
 
 // The field at fault of item i of a part after the header.
+#[inline(always)]
 fn item_misfit(s: &[u8], head: Header, part: Part, i: usize) -> Option<usize>
     requires { AfterHeader part × (i < (format head part).items) × (4 * words head part ≤ length s.now) }
     ensures { result ≡ misfit_from 0 (format head part).fields (item_from s.now (length (format head part).fields * i) i) }
@@ -176,6 +179,7 @@ fn item_misfit(s: &[u8], head: Header, part: Part, i: usize) -> Option<usize>
 }
 
 // The lowest place at fault in a part after the header, given as its own bytes.
+#[inline(always)]
 pub fn misfit(s: &[u8], head: Header, part: Part) -> Option<usize>
     requires { AfterHeader part × Counted head × (4 * words head part ≤ length s.now) }
     ensures { result ≡ misfit (format head part) s.now }
