@@ -1,4 +1,5 @@
-use Rattle.model.specs.Refusals.{job_verdict, job_tests}
+use borrow.Author.Rules.{rules}
+use Rattle.model.specs.Refusals.{fault11, job_verdict, job_tests}
 use Rattle.model.proofs.Verdict.{has_header}
 use Rattle.sections.proofs.Sizes.{is_sized}
 use Rattle.model.proofs.Rulings.{passed, refused}
@@ -15,7 +16,7 @@ returns-in_err-refuse-2 c = rw (passed 1 c.frame.ensures c.in_ok-refuse.ensures)
 
 pub returns-in_err-refuse-3 : goal.returns-in_err-refuse-3
 unfolding job_verdict job_tests
-returns-in_err-refuse-3 c = rw (passed 1 c.frame.ensures c.in_ok-refuse.ensures, passed 2 c.limits.ensures c.in_ok-refuse-2.ensures) (refused 11 c.width.ensures _ c.in_err-refuse-3.ensures c.from_residual-in_err-refuse-3.ensures.1)
+returns-in_err-refuse-3 c = rw (passed 1 c.frame.ensures c.in_ok-refuse.ensures, passed 2 c.limits.ensures c.in_ok-refuse-2.ensures) (refused 11 {f = fault11 c.args.s.now} (search rules) _ c.in_err-refuse-3.ensures c.from_residual-in_err-refuse-3.ensures.1)
 
 pub returns-in_err-refuse-4 : goal.returns-in_err-refuse-4
 unfolding job_verdict job_tests
