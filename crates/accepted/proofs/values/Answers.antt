@@ -7,6 +7,20 @@ use Rattle.accepted.proofs.Fits.{line_reach, line_tenth, dynamic_limits, dynamic
 use Rattle.accepted.proofs.Loads.{effects_are, loads_fit, factor_is}
 use Rattle.accepted.proofs.values.Goals as goal
 
+pub returns-clause-placed : goal.returns-clause-placed
+returns-clause-placed c =
+    let ready = c.requires.ready in
+    let job = decode c.args.job.now in
+    let above = c.requires.sought_right Raising in
+    let below = c.requires.sought_right Lowering in
+    c.both.ensures.placed job (record {
+      spanned = c.requires.spanned;
+      profile = profile_is ready;
+      dynamic = factor_is ready c.args.q c.factor-dynamic.ensures;
+      hn = effects_are job HN above below c.effects.ensures.0 c.effects.ensures.1;
+      ho = effects_are job HO above below c.effects-2.ensures.0 c.effects-2.ensures.1;
+    })
+
 pub factor-dynamic-requires : goal.factor-dynamic-requires
 factor-dynamic-requires c = dynamic_limits c.requires.ready _
 
@@ -33,17 +47,3 @@ invariant_of-loads c =
         heavy = loads_fit job HO above below c.effects-2.ensures.0 c.effects-2.ensures.1 over (line_reach ready) (line_tenth ready);
       };
     }
-
-pub returns-clause-placed : goal.returns-clause-placed
-returns-clause-placed c =
-    let ready = c.requires.ready in
-    let job = decode c.args.job.now in
-    let above = c.requires.sought_right Raising in
-    let below = c.requires.sought_right Lowering in
-    c.both.ensures.placed job (record {
-      spanned = c.requires.spanned;
-      profile = profile_is ready;
-      dynamic = factor_is ready _ c.factor-dynamic.ensures;
-      hn = effects_are job HN above below c.effects.ensures.0 c.effects.ensures.1;
-      ho = effects_are job HO above below c.effects-2.ensures.0 c.effects-2.ensures.1;
-    })
