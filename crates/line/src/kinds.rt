@@ -5,7 +5,29 @@ ghost use Rattle.line.specs.Sought.{SoughtNear, kind_of, EffectRight};
 
 use crate::sought::Sought;
 
-// The normal and the overload element.
+// The normal element.
+#[derive(Clone, Copy)]
+pub struct Hn {}
+
+impl Hn {
+    // An axle on an ordinate of 1, in 75 N·U.
+    pub const AXLE: i64 = 1600;
+
+    // Uniform load on 1 dm of an ordinate sum of 1, in 75 N·U.
+    pub const UNIFORM: i64 = 7;
+}
+
+// The overload element.
+#[derive(Clone, Copy)]
+pub struct Ho {}
+
+impl Ho {
+    pub const AXLE: i64 = 3200;
+
+    pub const UNIFORM: i64 = Hn::UNIFORM;
+}
+
+// Either of them.
 #[derive(Clone, Copy)]
 pub enum Kind {
     Hn,
@@ -13,23 +35,23 @@ pub enum Kind {
 }
 
 impl Kind {
-    // An axle on an ordinate of 1, in 75 N·U.
+    // Its axle load.
     fn axle(self) -> i64
         ensures { result ≡ axle (kind_of self) }
     {
         match self {
-            Kind::Hn => 1600,
-            Kind::Ho => 3200,
+            Kind::Hn => Hn::AXLE,
+            Kind::Ho => Ho::AXLE,
         }
     }
 
-    // Uniform load on 1 dm of an ordinate sum of 1, in 75 N·U.
+    // Its uniform load.
     fn uniform(self) -> i64
         ensures { result ≡ uniform }
     {
         match self {
-            Kind::Hn => 7,
-            Kind::Ho => 7,
+            Kind::Hn => Hn::UNIFORM,
+            Kind::Ho => Ho::UNIFORM,
         }
     }
 
