@@ -148,7 +148,7 @@ table_counts Fourth =
     range 11 11  -- E: DL, EP, OW, SG, ST, TP, HE, WD, FW, EQ, CN
     ∷ range 0 0  -- R: the rows are built in
     ∷ range 0 0  -- C
-    ∷ range 1 3  -- barriers: 1 None, 2 pedestrian, 3 traffic
+    ∷ range 1 3  -- barriers: 1 none, 2 pedestrian, 3 traffic
     ∷ []
 
 -- an effect's mark, 1 always present, 2 may be left out; a rural bridge's DL, EP and OW have 1, the others 2
@@ -185,7 +185,7 @@ format head SecondTransverse = across_layout head.second head.spacing
 format head Effects = head.effects of effect_fields (effect_unit head.edition) (profile_of head.edition)
 format head Rows = head.rows of
     range 1 2  -- 1 service, 2 ultimate
-    ∷ range 0 2  -- live kind: 0 None, 1 normal, 2 overload
+    ∷ range 0 2  -- live kind: 0 none, 1 normal, 2 overload
     ∷ given 1 (λ live. range 0 (if is 0 live then 0 else 3000))  -- live factor, 0 for kind 0
     ∷ range 0 head.records  -- first record
     ∷ []
