@@ -1,7 +1,8 @@
 #!/usr/bin/env bash
-# The C side: installs the kernel, compiles the header and the C files with warnings as errors, runs them under the address and
-# undefined-behaviour sanitizers, and holds the examples' output to examples/*.expected, the jobs that arch and motorway pack to
-# examples/*-job.bin, the form that form writes to examples/spelled-form.bin and the stored cases' output to crates/replay/stdout.
+# The C side: installs the kernel, links it with nothing of a C library but memcpy and memset, compiles the header and the C files
+# with warnings as errors, runs them under the address and undefined-behaviour sanitizers, and holds the examples' output to
+# examples/*.expected, the jobs that arch and motorway pack to examples/*-job.bin, the form that form writes to
+# examples/spelled-form.bin and the stored cases' output to crates/replay/stdout.
 # The examples are built by pkg-config from a moved installation too, outside the repository, as C and as C++. Its products are in
 # target/c.
 set -u
@@ -34,6 +35,12 @@ header() {
 compile() {
   gcc -std=c99 -O1 -g $warnings -fsanitize=address,undefined -fno-sanitize-recover=all \
     -Itarget/dist/include "$1" target/dist/lib/libhnho.a -o "$2"
+}
+
+# links_alone: the archive, whole, needs nothing that tests/c_library.c hasn't
+links_alone() {
+  gcc -std=c99 -O1 $warnings -ffreestanding -fPIC -shared -nostdlib -Wl,--no-undefined tests/c_library.c \
+    -Wl,--whole-archive target/dist/lib/libhnho.a -o target/c/alone.so
 }
 
 # page EXPECTED EXAMPLE ARGUMENT..: the example prints what is stored
@@ -100,6 +107,7 @@ outside() (
 
 step 'the package' tools/package
 step 'the folder target/c' mkdir -p target/c
+step 'what the archive needs of a C library' links_alone
 printf '#include "hnho.h"\n' >target/c/header.c
 for standard in c99 c11; do
   step "the header as $standard" header gcc -std=$standard

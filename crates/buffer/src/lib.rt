@@ -17,7 +17,7 @@ impl<'a> Cursor<'a> {
         requires { HasRoom (length bytes.now) self.old }
         ensures { Puts self.old bytes.now self.new }
     {
-        self.out[self.at..self.at + bytes.len()].copy_from_slice(bytes);
+        copy(&mut self.out[self.at..self.at + bytes.len()], bytes);
         self.at += bytes.len();
     }
 
@@ -44,6 +44,16 @@ impl<'a> Cursor<'a> {
         ensures { Puts self.old (little_endian 4 x) self.new }
     {
         self.put(&(x as u64).to_le_bytes()[..4]);
+    }
+}
+
+// Copies bytes over as many others, by a loop: `copy_from_slice` has the archive ask a host for `memmove`.
+fn copy(to: &mut [u8], from: &[u8])
+    requires { length to.old ≡ length from.now }
+    ensures { to.new ≡ from.now }
+{
+    for (i, byte) in from.iter().enumerate() {
+        to[i] = *byte;
     }
 }
 

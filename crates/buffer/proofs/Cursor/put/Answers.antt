@@ -5,4 +5,4 @@ use Rattle.buffer.proofs.Parts.{part}
 use Rattle.buffer.proofs.Cursor.put.Goals as goal
 
 pub returns : goal.returns
-returns c = stores refl (part c.copy_from_slice.ensures.after refl (omega arith))
+returns c = stores refl (part c.copy.ensures refl (omega arith))
