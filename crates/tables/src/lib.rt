@@ -37,7 +37,11 @@ fn factors(records: &[u8], first: usize, left: usize) -> [usize; 16]
 fn count(factors: &[usize]) -> usize
     ensures { result ≡ length (terms_in factors.now (length factors.now)) }
 {
-    factors.iter().filter(|factor| **factor != 0).count()
+    let mut k = 0;
+    for factor in factors {
+        k += usize::from(*factor != 0);
+    }
+    k
 }
 
 // How many records the form has of the chain from a first record.
