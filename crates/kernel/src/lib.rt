@@ -66,7 +66,9 @@ pub fn told(answer: Answer) -> Account
 pub fn solve(job: &[u8], patch: &mut [u8]) -> Answer
     ensures { Answered job.now patch.old result patch.new }
 {
-    refusals::verdict(job)?;
+    if let Err(refusal) = refusals::verdict(job) {
+        return Err(refusal);
+    }
     let head = header::read(job);
     if patch.len() < head.pieces {
         return Err(Refusal {

@@ -24,8 +24,8 @@ fn put_placement(w: &mut Cursor, p: Placement)
     ensures { Written w.old (placement_numbers p) w.new }
 {
     numbers::put_count(w, p.set as u64);
-    for lane in p.lanes {
-        put_lane(w, lane);
+    for lane in &p.lanes {
+        put_lane(w, *lane);
     }
 }
 

@@ -1,6 +1,5 @@
-use mathlib.Core.Path.{◌≡◌, refl, sym, ◌∙◌, ap, subst}
+use mathlib.Core.Path.{◌≡◌, refl, sym, ap, subst}
 use Rattle.std.specs.Prelude.{None, Ok, Err}
-use Rattle.std.proofs.lemmas.Result.{err_from_is_err_and}
 use mathlib.Core.List.{List, ◌++◌}
 use Prim.Native.Nat.{ℕ}
 use native.Mathlib.Omega.{arith}
@@ -44,36 +43,34 @@ answers {b} {before} {after} {line} {head} r l m a p v =
       patch = marked;
     })
 
-pub returns-in_err-verdict : goal.returns-in_err-verdict
-returns-in_err-verdict c =
-    let p = err_from_is_err_and c.from_residual.result c.from_residual.ensures.1 in
-    refused _ (job_refuses _ _ (is_refused (job_verdict c.args.job.now) c.in_err-verdict.ensures)) (p.1 ∙ ap Err p.2) refl
+pub returns-in-Err : goal.returns-in-Err
+returns-in-Err c = refused _ (job_refuses _ _ (is_refused (job_verdict c.args.job.now) c.in-Err.ensures)) refl refl
 
 pub read-head-requires : goal.read-head-requires
 read-head-requires c =
     let b = c.args.job.now in
-    has_header b (clear b (is_accepted (job_verdict b) c.in_ok-verdict.ensures)).c1
+    has_header b (clear b (is_accepted (job_verdict b) c.in_default.ensures)).c1
 
 pub overflow_cast-result : goal.overflow_cast-result
-overflow_cast-result c = omega (arith, (counts (sized (ready c.read-head.ensures c.in_ok-verdict.ensures))).pieces)
+overflow_cast-result c = omega (arith, (counts (sized (ready c.read-head.ensures c.in_default.ensures))).pieces)
 
 pub returns-then-patch-head : goal.returns-then-patch-head
 returns-then-patch-head c =
-    refused _ (short_refused _ _ (ready c.read-head.ensures c.in_ok-verdict.ensures).accepted (omega (arith, pieces c.args.job.now c.read-head.ensures, c.if-patch-head.true))) (ap (λ n. Err (record { number = 9; place = n })) (pieces c.args.job.now c.read-head.ensures)) refl
+    refused _ (short_refused _ _ (ready c.read-head.ensures c.in_default.ensures).accepted (omega (arith, pieces c.args.job.now c.read-head.ensures, c.if-patch-head.true))) (ap (λ n. Err (record { number = 9; place = n })) (pieces c.args.job.now c.read-head.ensures)) refl
 
 pub account-account-requires : goal.account-account-requires
-account-account-requires c = ready c.read-head.ensures c.in_ok-verdict.ensures
+account-account-requires c = ready c.read-head.ensures c.in_default.ensures
 
 pub section-requires : goal.section-requires
-section-requires c = sized (ready c.read-head.ensures c.in_ok-verdict.ensures)
+section-requires c = sized (ready c.read-head.ensures c.in_default.ensures)
 
 pub mark-requires : goal.mark-requires
 mark-requires c =
-    let fits = subst (λ (l : List ℕ). LineFits l c.read-head.result.pieces) (sym c.section.ensures) (line_fits (ready c.read-head.ensures c.in_ok-verdict.ensures)) in
+    let fits = subst (λ (l : List ℕ). LineFits l c.read-head.result.pieces) (sym c.section.ensures) (line_fits (ready c.read-head.ensures c.in_default.ensures)) in
     record { line_fits = fits_fewer fits (omega arith); n_in_bounds = omega (arith, c.if-patch-head.false) }
 
 pub returns : goal.returns
 returns c =
-    let r = ready c.read-head.ensures c.in_ok-verdict.ensures in
+    let r = ready c.read-head.ensures c.in_default.ensures in
     answers r c.section.ensures (c.mark.ensures _) c.account-account.result c.account-account.ensures
     (long_accepted _ _ r.accepted (omega (arith, pieces c.args.job.now c.read-head.ensures, c.if-patch-head.false)))
