@@ -97,6 +97,11 @@ module _ {b : List ℕ} {head : Header} (ready : Ready b head) where
       go (one z) h = absurd (omega arith)
       go (two e wide narrow) h = section_fits (section_of b SecondTransverse) (header_of b).second wide narrow (part_length sized SecondTransverse) (second_within b c.c4)
 
+  -- the line's ordinates are from -5000 to 5000
+  pub line_near : OrdinatesWithin 5000 (decode b).line
+  unfolding decode
+  line_near = λ i h. (line_within b c.c4 (2 * i) (omega arith), line_within b c.c4 (2 * i + 1) (omega arith))
+
   -- with two carriageways the line's ordinates are from -500 to 500
   pub line_tenth : ((decode b).second.width ≡ 0) ⊎ OrdinatesWithin 500 (decode b).line
   unfolding decode

@@ -1,6 +1,6 @@
 -- What the traffic values ask of an accepted job: its line effects, what lies across and the dynamic factors.
 use Rattle.std.specs.Prelude.{if◌then◌else◌}
-use mathlib.Core.Path.{◌≡◌, refl, sym, ◌∙◌, ap, ap₂, subst}
+use mathlib.Core.Path.{◌≡◌, refl, sym, ◌∙◌, ap, subst}
 use mathlib.Core.Logic.{◌⊎◌, inl, inr}
 use mathlib.Core.Bool.{true}
 use mathlib.Core.List.{List}
@@ -31,8 +31,6 @@ use Rattle.model.specs.declared.Sense.{Sense}
 use Rattle.model.specs.declared.Sense.TheVariants.{Raising, Lowering}
 use Rattle.model.proofs.Lanes.{no_second}
 use Rattle.model.proofs.Signs.{line_zero}
-use Rattle.line.specs.Sought.{SoughtRight, EffectRight}
-use Rattle.line.specs.declared.sought.Sought.{Sought}
 use Rattle.centres.specs.Spans.{DecksOf}
 use Rattle.centres.specs.Spanned.{Spanned}
 use Rattle.centres.specs.declared.Across.{Across}
@@ -46,28 +44,32 @@ half : (kind : Kind) (n : ℕ) → 5 * (14000 * 500 + up (axle kind) * (500 + 50
 half HN n = by_test (ltb n 6) (λ t. 43000000 ≤ (if t then 86000000 else 43000000)) (λ _. omega arith) (λ _. omega arith)
 half HO n = by_test (ltb n 6) (λ t. 51000000 ≤ (if t then 102000000 else 51000000)) (λ _. omega arith) (λ _. omega arith)
 
--- a kind's line effects by what is sought
-module _ (job : Job) (kind : Kind) {raising lowering : Sought} (above : SoughtRight job.line Raising raising) (below : SoughtRight job.line Lowering lowering)
-    {e : BySense ℤ} (a : EffectRight kind raising e.raising) (b : EffectRight kind lowering e.lowering) where
+-- ordinates of at most 5000 give a kind's most
+whole : (kind : Kind) → 14000 * 5000 + up (axle kind) * (5000 + 5000) ≤ line_most kind
+whole HN = omega arith
+whole HO = omega arith
+
+-- a kind's line effects of a line with the ordinates and the length that an accepted job has
+module _ (job : Job) (kind : Kind) {e : BySense ℤ} (are : e ≡ effects_of job kind) (ordinates : OrdinatesWithin 5000 job.line) (reach : job.line.pieces * job.line.h ≤ 1000) where
   raised : e.raising ≡ line_effect job.line kind Raising
-  raised = a.is job.line Raising above
+  raised = ap (λ (x : BySense ℤ). x.raising) are
 
   lowered : e.lowering ≡ line_effect job.line kind Lowering
-  lowered = b.is job.line Lowering below
+  lowered = ap (λ (x : BySense ℤ). x.lowering) are
 
-  pub effects_are : e ≡ effects_of job kind
-  effects_are = ap₂ (λ (x y : ℤ). record { raising = x; lowering = y }) raised lowered
+  own_near : (sense : Sense) → Within (line_most kind) (line_effect job.line kind sense)
+  own_near sense = within_le (effect_near 5000 job.line ordinates reach kind sense) (whole kind)
 
-  pub effects_fit : LineEffectsFit (line_most kind) e
+  effects_fit : LineEffectsFit (line_most kind) e
   effects_fit = record {
     up = subst (λ (z : ℤ). pos 0 ≤ℤ z) (sym raised) (line_zero job.line kind Raising);
     down = subst (λ (z : ℤ). z ≤ℤ pos 0) (sym lowered) (line_zero job.line kind Lowering);
-    raising = a.near;
-    lowering = b.near;
+    raising = subst (Within (line_most kind)) (sym raised) (own_near Raising);
+    lowering = subst (Within (line_most kind)) (sym lowered) (own_near Lowering);
   }
 
   -- near enough in every lane: with one carriageway as they are; with two times at most 5, and a tenth
-  module _ {across : Across} (on : Spanned job across) (reach : job.line.pieces * job.line.h ≤ 1000) (tenth : (job.second.width ≡ 0) ⊎ OrdinatesWithin 500 job.line) where
+  module _ {across : Across} (on : Spanned job across) (tenth : (job.second.width ≡ 0) ⊎ OrdinatesWithin 500 job.line) where
     other_few : (i : ℕ) → other_in across.first across.second i ≤ 5
     other_few i =
         by_test (ltb i across.first) (λ t. (if t then max 1 across.second else across.first) ≤ 5) (λ _. omega (arith, across.fits.second_few)) (λ _. across.fits.few)

@@ -7,10 +7,11 @@ ghost use Rattle.magnitudes.specs.Magnitudes.{traffic_most};
 ghost use Rattle.model.specs.Answers.{for_limit};
 ghost use Rattle.model.specs.Decode.{decode};
 ghost use Rattle.model.specs.Job.{Limit, normal, overload};
+ghost use Rattle.model.specs.Line.{HN, HO};
 ghost use Rattle.model.specs.RecordsWalked.{records_walked};
 ghost use Rattle.line.specs.Sought.{SoughtNear, SensesRight, kind_of, EffectRight};
 ghost use Rattle.centres.specs.Spanned.{Spanned};
-ghost use Rattle.lanes.specs.Loadings.{TrafficPlaced};
+ghost use Rattle.lanes.specs.Loadings.{effects_of, TrafficPlaced};
 ghost use Rattle.rows.specs.Governed.{traffic_of, LiveFits, StateFound};
 ghost use Rattle.accepted.specs.AccountParts.{Ready, TrafficFound, PartsRight};
 
@@ -58,17 +59,18 @@ fn effects(kind: Kind, senses: BySense<Sought>) -> Effects
     }
 }
 
-// A question's traffic values.
+// A question's traffic values, by the kinds' line effects.
 fn values(
     job: &[u8],
     head: Header,
     q: Question,
     across: Across,
-    senses: BySense<Sought>,
+    hn: Effects,
+    ho: Effects,
 ) -> ByLive<Extreme>
     requires ready { Ready job.now head }
     requires spanned { Spanned (decode job.now) across }
-    requires sought_right { SensesRight (decode job.now).line senses }
+    requires effects { hn ≡ effects_of (decode job.now) HN × ho ≡ effects_of (decode job.now) HO }
     ensures near { Within traffic_most result.normal.value × Within traffic_most result.overload.value }
     ensures placed { TrafficPlaced q (decode job.now) normal result.normal × TrafficPlaced q (decode job.now) overload result.overload }
 {
@@ -78,8 +80,8 @@ fn values(
         edition: head.edition,
         across,
         dynamic,
-        hn: effects(Kind::Hn, senses),
-        ho: effects(Kind::Ho, senses),
+        hn,
+        ho,
     };
     loads.both()
 }
@@ -92,8 +94,10 @@ fn traffic(job: &[u8], head: Header, across: Across, senses: BySense<Sought>) ->
     ensures normal { TrafficFound (decode job.now) normal result.normal }
     ensures overload { TrafficFound (decode job.now) overload result.overload }
 {
-    let most = values(job, head, Question::Greatest, across, senses);
-    let lowest = values(job, head, Question::Least, across, senses);
+    let hn = effects(Kind::Hn, senses);
+    let ho = effects(Kind::Ho, senses);
+    let most = values(job, head, Question::Greatest, across, hn, ho);
+    let lowest = values(job, head, Question::Least, across, hn, ho);
     ByLive {
         normal: ByQuestion {
             greatest: most.normal,
