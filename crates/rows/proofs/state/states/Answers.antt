@@ -33,6 +33,6 @@ loop-i-preserved c =
     let l = c.loop-i in
     let next = c.row-next in (
       rw c.with_row-states.ensures (found_next (effect_in t) (row_in t) (traffic_of c.args.live) l.i c.is_of_service.result l.states next.result.best c.is_of_service.ensures next.ensures.best_value l.invariant.0),
-      more (profile_in t) (row_in t) l.i l.invariant.1 next.ensures.length_value,
+      grind (arith, more (profile_in t) (row_in t) l.i l.invariant.1 next.ensures.length_value),
       c.row_count-i-end.ensures,
     )
