@@ -1,4 +1,4 @@
-use Rattle.std.proofs.Common.{arith}
+use native.Mathlib.Omega.{arith}
 use Rattle.axles.proofs.Trains.{firsts_padded}
 use Rattle.axles.proofs.gather.Goals as goal
 
