@@ -44,11 +44,6 @@ half : (kind : Kind) (n : ℕ) → 5 * (14000 * 500 + up (axle kind) * (500 + 50
 half HN n = by_test (ltb n 6) (λ t. 43000000 ≤ (if t then 86000000 else 43000000)) (λ _. omega arith) (λ _. omega arith)
 half HO n = by_test (ltb n 6) (λ t. 51000000 ≤ (if t then 102000000 else 51000000)) (λ _. omega arith) (λ _. omega arith)
 
--- ordinates of at most 5000 give at most a kind's most
-within_most : (kind : Kind) → 14000 * 5000 + up (axle kind) * (5000 + 5000) ≤ line_most kind
-within_most HN = omega arith
-within_most HO = omega arith
-
 -- a kind's line effects of a line with the ordinates and the length that an accepted job has
 module _ (job : Job) (kind : Kind) {e : BySense ℤ} (are : e ≡ effects_of job kind) (ordinates : OrdinatesWithin 5000 job.line) (reach : job.line.pieces * job.line.h ≤ 1000) where
   raised : e.raising ≡ line_effect job.line kind Raising
@@ -58,7 +53,7 @@ module _ (job : Job) (kind : Kind) {e : BySense ℤ} (are : e ≡ effects_of job
   lowered = ap (λ (x : BySense ℤ). x.lowering) are
 
   own_near : (sense : Sense) → Within (line_most kind) (line_effect job.line kind sense)
-  own_near sense = within_le (effect_near 5000 job.line ordinates reach kind sense) (within_most kind)
+  own_near sense = effect_near 5000 job.line ordinates reach kind sense
 
   effects_fit : LineEffectsFit (line_most kind) e
   effects_fit = record {
